@@ -1,0 +1,4 @@
+pub mod Field
+pub mod Frame
+pub mod Numbers
+pub mod Tests

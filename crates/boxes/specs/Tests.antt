@@ -1,0 +1,20 @@
+-- Tests in an order, of which the first that fails decides. Assumes nothing.
+use mathlib.Core.Bool.{Bool, true, false}
+use mathlib.Core.List.{List, [], _∷_}
+use Rattle.std.specs.declared.option.Option.{Option}
+use Rattle.std.specs.declared.option.Option.the-variants.{Some, None}
+use Rattle.boxes.specs.declared.reason.Reason.{Reason}
+
+-- a test: whether it fails, and what it then says
+abbrev pub Test : Type 0
+Test = Bool × Reason
+
+-- what the test says, or what the later ones say where it passes
+abbrev pub unless : Bool → Reason → Option Reason → Option Reason
+unless true r later = Some r
+unless false r later = later
+
+-- what the first test that fails says
+abbrev pub firstFailure : List Test → Option Reason
+firstFailure [] = None
+firstFailure (t ∷ ts) = unless (t .0) (t .1) (firstFailure ts)

@@ -1,0 +1,4 @@
+// The framing of a JPM file: what a box header says, and whether the box fits where it stands.
+pub mod field;
+pub mod frame;
+pub mod reason;

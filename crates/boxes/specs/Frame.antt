@@ -4,15 +4,12 @@ use mathlib.Core.List.{List, [], _∷_}
 use Prim.Native.Nat.{ℕ, _≤_}
 use lib.Dec.{eqb, ltb}
 use lib.ListN.{length}
-use Rattle.std.specs.declared.option.Option.{Option}
-use Rattle.std.specs.declared.option.Option.the-variants.{Some, None}
 use Rattle.std.specs.declared.result.Result.{Result}
-use Rattle.std.specs.declared.result.Result.the-variants.{Ok, Err}
 use Rattle.boxes.specs.declared.frame.Frame.{Frame}
 use Rattle.boxes.specs.declared.reason.Reason.{Reason}
 use Rattle.boxes.specs.declared.reason.Reason.the-variants.{Truncated, BadLength}
 use Rattle.boxes.specs.Field.{field}
-use Rattle.boxes.specs.Tests.{Test, firstFailure}
+use Rattle.boxes.specs.Tests.{Test, judged}
 
 -- the four-byte length, the four-byte type, and the eight-byte length that follows them where the first is 1
 abbrev pub shortLength : List ℕ → ℕ
@@ -46,14 +43,6 @@ frameTests top bs =
 
 abbrev pub frameMade : ℕ → ℕ → ℕ → Frame
 frameMade c h s = record { code = c; header = h; size = s }
-
-abbrev orElse : {T : Type 0} → Option Reason → T → Result T Reason
-orElse None x = Ok x
-orElse (Some r) x = Err r
-
--- a value where every test passes, and otherwise what the first that fails says
-abbrev pub judged : {T : Type 0} → List Test → T → Result T Reason
-judged ts x = orElse (firstFailure ts) x
 
 -- the answer for what is left of a container
 abbrev pub framed : Bool → List ℕ → Result Frame Reason

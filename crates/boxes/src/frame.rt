@@ -5,12 +5,13 @@ ghost use mathlib.Core.List.{[], _∷_};
 ghost use lib.Dec.{ltb};
 ghost use lib.ListN.{length};
 ghost use Rattle.std.specs.Vec.{made};
-ghost use Rattle.boxes.specs.Frame.{Within, framed, frameMade, judged, lengthTests, longLength};
+ghost use Rattle.boxes.specs.Frame.{Within, framed, frameMade, lengthTests, longLength};
+ghost use Rattle.boxes.specs.Tests.{judged};
 use crate::field::read64;
 use crate::reason::Reason;
 
 // A box that lies within its container: its type code, the size of its header and its whole length, in bytes.
-#[derive(Clone, Copy, PartialEq, Eq, Debug)]
+#[derive(Clone, Copy)]
 pub struct Frame {
     pub code: u32,
     pub header: usize,

@@ -1,56 +1,70 @@
-// Walks the boxes of a JPM file from beginning to end, and prints the type, the offset and the length of each.
-ghost use Prim.Native.Nat.{_≤_};
-use boxes::frame::read_frame;
+// Prints the plan of a page of a JPM file, writes it back, and says whether the bytes are the same.
+mod show;
+mod written;
+
+use plan::lawful::Plan;
+use reader::read::Refusal;
+use reader::read::read;
+use show::show_plan;
 use std::env;
 use std::error::AnyError;
 use std::fs;
+use written::show_written;
 
-// The text of a type code: its four letters, with a dot for what is no letter, digit or blank.
-fn letter(code: u32, shift: u32) -> char
-    requires { ⌜ shift ≤ 24 ⌝ }
-{
-    let byte = ((code >> shift) & 0xff) as u8;
-    if byte.is_ascii_graphic() || byte == b' ' {
-        char::from(byte)
-    } else {
-        '.'
-    }
+// What the program is asked for.
+#[derive(Drop)]
+struct Request {
+    path: String,
+    page: u64,
 }
 
-// Prints one line for each box at the top level.
-fn list_boxes(rt: &LibcRuntime, file: &[u8]) -> Result<(), AnyError> {
-    let mut rest = file;
-    let mut at: usize = 0;
-    while !rest.is_empty() {
-        match read_frame(rest, true) {
-            Ok(found) => {
-                let a = letter(found.code, 24);
-                let b = letter(found.code, 16);
-                let c = letter(found.code, 8);
-                let d = letter(found.code, 0);
-                let size = found.size;
-                println!(rt, "{a}{b}{c}{d} offset {at} length {size}")?;
-                rest = &rest[size..];
-                at += size;
-            }
-            Err(reason) => {
-                let number = reason.number();
-                println!(rt, "refused {number} layer 0 offset {at}")?;
-                return Err("the file is refused".into());
-            }
+fn read_request(rt: &LibcRuntime) -> Result<Request, AnyError> {
+    let mut args = env::args(rt)?;
+    let _ = args.next();
+    let Some(path) = args.next() else {
+        return Err("usage: inspect FILE [PAGE]".into());
+    };
+    let page = match args.next() {
+        Some(text) => match text.as_str().parse::<u64>() {
+            Ok(page) => page,
+            Err(_) => return Err("PAGE is a whole number from 0 on".into()),
+        },
+        None => 0,
+    };
+    if args.next().is_some() {
+        return Err("usage: inspect FILE [PAGE]".into());
+    }
+    Ok(Request { path, page })
+}
+
+// The line of a refusal.
+fn show_refusal(rt: &LibcRuntime, refusal: Refusal) -> Result<(), AnyError> {
+    let number = refusal.number();
+    match refusal {
+        Refusal::Faulty(fault) => {
+            let layer = fault.layer();
+            let offset = fault.offset;
+            println!(rt, "refused {number} layer {layer} offset {offset}")?;
         }
+        Refusal::NoSuchPage => println!(rt, "refused {number}")?,
     }
     Ok(())
 }
 
 fn run(rt: &LibcRuntime) -> Result<(), AnyError> {
-    let mut args = env::args(rt)?;
-    let _ = args.next();
-    let Some(path) = args.next() else {
-        return Err("usage: inspect FILE".into());
-    };
+    let Request { path, page } = read_request(rt)?;
     let file = fs::read(rt, path.as_str())?;
-    list_boxes(rt, file.as_slice())
+    let mut plan = Plan::blank();
+    match read(file.as_slice(), page, &mut plan) {
+        Ok(()) => {
+            show_plan(rt, &plan)?;
+            show_written(rt, file.as_slice(), page, &plan)
+        }
+        Err(refusal) => {
+            show_refusal(rt, refusal)?;
+            Err("the file is refused".into())
+        }
+    }
 }
 
 fn main(rt: LibcRuntime) -> Result<(), AnyError> {

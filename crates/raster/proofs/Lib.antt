@@ -1,0 +1,3 @@
+pub mod Likeness
+pub mod Puts
+pub mod Rounding

@@ -14,7 +14,7 @@ use raster::Placement;
 use raster::Source;
 
 // Lays the object `k` on a window, if there is one.
-pub fn lay_object<C: Colour, M: Source<Sample = Cover>, I: Source<Sample = C>>(
+pub(crate) fn lay_object<C: Colour, M: Source<Sample = Cover>, I: Source<Sample = C>>(
     cells: &mut [Cell<C>],
     frame: Frame,
     place: Option<Placement>,

@@ -77,4 +77,5 @@ def main():
     sys.stdout.buffer.write(b"P6\n%d %d\n255\n" % (width, height) + out)
 
 
-main()
+if __name__ == "__main__":
+    main()

@@ -11,6 +11,6 @@ returns c =
     record {
       answer = put-answer buffer bytes at fits;
       buffer =
-          copied buffer bytes c.copy-from-slice.new.self at _ c.copy-from-slice.ensures.after (omega arith)
+          copied buffer bytes c.copy_from_slice.new.self at _ c.copy_from_slice.ensures.after (omega arith)
           ∙ put-buffer buffer bytes at fits;
     }

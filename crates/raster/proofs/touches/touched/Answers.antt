@@ -5,6 +5,6 @@ use Rattle.raster.proofs.touches.touched.Goals as goal
 pub returns : goal.returns
 returns g c =
     record {
-      answer = c.touch-of.ensures.answer;
-      alike = λ mask' image' m i. c.touch-of.ensures.answer ∙ touches c.args.place _ mask' _ image' m i c.args.column c.args.row;
+      answer = c.touch_of.ensures.answer;
+      alike = λ mask' image' m i. c.touch_of.ensures.answer ∙ touches c.args.place _ mask' _ image' m i c.args.column c.args.row;
     }

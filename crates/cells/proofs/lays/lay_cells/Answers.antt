@@ -10,21 +10,21 @@ pub loop-column-init : goal.loop-column-init
 loop-column-init g c =
     (sums_none _ _ _ _ _ _ c.loop-row.invariant.0.bound, sums_none _ _ _ _ _ _ c.loop-row.invariant.1.bound, changes-none _ _ _ _ _)
 
-pub overflow-add-raised : goal.overflow-add-raised
-overflow-add-raised g c = omega (arith, c.loop-column.invariant.0.bound, c.index-of-at.ensures.value, c.index-of-at.ensures.bound)
+pub overflow_add-raised : goal.overflow_add-raised
+overflow_add-raised g c = omega (arith, c.loop-column.invariant.0.bound, c.index_of-at.ensures.value, c.index_of-at.ensures.bound)
 
-pub overflow-add-passed : goal.overflow-add-passed
-overflow-add-passed g c = omega (arith, c.loop-column.invariant.1.bound, c.index-of-at.ensures.value, c.index-of-at.ensures.bound)
+pub overflow_add-passed : goal.overflow_add-passed
+overflow_add-passed g c = omega (arith, c.loop-column.invariant.1.bound, c.index_of-at.ensures.value, c.index_of-at.ensures.bound)
 
 pub loop-column-preserved : goal.loop-column-preserved
 loop-column-preserved g c =
     let pane = c.args.pane in
     let ok = granted-from pane.area pane.window pane.passes in
     let held : Held pane.window c.loop-column.column c.loop-row.row = omega arith in
-    let is = c.index-of-at.ensures.value in
-    let done = c.lay-one-up.ensures in
-    let up : c.lay-one-up.result.0 < 65536 = omega (arith, done.bound.0) in
-    let over : c.lay-one-up.result.1 < 65536 = omega (arith, done.bound.1) in (
+    let is = c.index_of-at.ensures.value in
+    let done = c.lay_one-up.ensures in
+    let up : c.lay_one-up.result.0 < 65536 = omega (arith, done.bound.0) in
+    let over : c.lay_one-up.result.1 < 65536 = omega (arith, done.bound.1) in (
       sums_next pane.area pane.window _ ok _ _ held _ is _ _ _ _ _ _ _ _ done.raised up done.cells c.loop-column.invariant.0,
       sums_next pane.area pane.window _ ok _ _ held _ is _ _ _ _ _ _ _ _ done.passed over done.cells c.loop-column.invariant.1,
       changes-next pane.area pane.window _ ok _ _ held _ is _ _ _ _ done.cells c.loop-column.invariant.2,

@@ -5,7 +5,7 @@ use Rattle.cells.specs.Passes.{out_of_turn, missing}
 use Rattle.cells.proofs.Places.{Held, granted-from}
 use Rattle.cells.proofs.Passing.{firsts, not_there, is_there, joins-none, joins-is, joins-same, joins-row, first-whole, first_found}
 use Rattle.cells.proofs.obstacles.first_obstacle.Goals as goal
-use Rattle.cells.proofs.obstacles.first_obstacle.Goals.{else-rows-test, then-rows-test+then-loop-column-test+then-is-some}
+use Rattle.cells.proofs.obstacles.first_obstacle.Goals.{else-rows-test, then-rows-test+then-loop-column-test+then-is_some}
 
 pub rows-init : goal.rows-init
 rows-init g c = (joins-none _ _ firsts _ _ _ _ _ _, joins-none _ _ firsts _ _ _ _ _ _, refl, refl)
@@ -18,15 +18,15 @@ loop-column-preserved g c =
     let pane = c.args.pane in
     let ok = granted-from pane.area pane.window pane.passes in
     let held : Held pane.window c.loop-column.column c.rows.row = omega arith in
-    let is = c.index-of-at.ensures.value in
-    let nothing = not_there c.early-one-early.result (sym c.is-some.ensures ∙ c.if-is-some.false) in
-    let kept = c.early-one-early.ensures.same in
-    let same = c.missing-one-lacking.ensures.same ∙ kept in
+    let is = c.index_of-at.ensures.value in
+    let nothing = not_there c.early_one-early.result (sym c.is_some.ensures ∙ c.if-is_some.false) in
+    let kept = c.early_one-early.ensures.same in
+    let same = c.missing_one-lacking.ensures.same ∙ kept in
     let touch = touch_at c.args.place (g.M.Source.meaning c.args.mask.now) (g.I.Source.meaning c.args.image.now) in
     let lacks = missing c.args.k touch c.loop-column.column c.rows.row in (
-      joins-same or_else None firsts pane.area pane.window _ ok _ _ held _ is c.loop-column.cells _ None None _ _ _ (sym nothing ∙ c.early-one-early.ensures.answer) same c.loop-column.invariant.0,
+      joins-same or_else None firsts pane.area pane.window _ ok _ _ held _ is c.loop-column.cells _ None None _ _ _ (sym nothing ∙ c.early_one-early.ensures.answer) same c.loop-column.invariant.0,
       joins-is or_else None firsts pane.area pane.window _ _ _ _ _ _ _ _
-          (c.missing-one-lacking.ensures.answer ∙ ap (λ xs. or_else c.loop-column.lacking (gathered_one None lacks c.index-of-at.result xs)) kept)
+          (c.missing_one-lacking.ensures.answer ∙ ap (λ xs. or_else c.loop-column.lacking (gathered_one None lacks c.index_of-at.result xs)) kept)
           (joins-same or_else None firsts pane.area pane.window _ ok _ _ held _ is c.loop-column.cells _ c.loop-column.lacking _ _ _ _ refl same c.loop-column.invariant.1),
       same ∙ c.loop-column.invariant.2,
       nothing,
@@ -61,18 +61,18 @@ returns g c =
             answer = all ∙ ap₂ or_else (w.early-is ∙ c.rows.invariant.3 ∙ e) (w.lacking-is ∙ l);
             same = w.cells-is ∙ c.rows.invariant.2;
           }
-      | then-rows-test+then-loop-column-test+then-is-some w ↦
+      | then-rows-test+then-loop-column-test+then-is_some w ↦
           let held : Held pane.window w.loop-column.column c.rows.row = omega arith in
-          let there = sym w.is-some.ensures ∙ w.if-is-some.true in
-          let e = first_found pane.area pane.window (out_of_turn c.args.k) ok w.loop-column.column c.rows.row held w.index-of-at.result w.index-of-at.ensures.value
-          w.loop-column.cells w.early-one-early.result _ c.rows.cells c.args.cells.now w.early-one-early.ensures.answer there w.loop-column.invariant.0 c.rows.invariant.0 in
+          let there = sym w.is_some.ensures ∙ w.if-is_some.true in
+          let e = first_found pane.area pane.window (out_of_turn c.args.k) ok w.loop-column.column c.rows.row held w.index_of-at.result w.index_of-at.ensures.value
+          w.loop-column.cells w.early_one-early.result _ c.rows.cells c.args.cells.now w.early_one-early.ensures.answer there w.loop-column.invariant.0 c.rows.invariant.0 in
           record {
             answer =
                 all
                 ∙ ap (λ y. or_else y c.rows-test.lacking) w.early-is
-                ∙ is_there w.early-one-early.result c.rows-test.lacking there
-                ∙ sym (is_there w.early-one-early.result first-lacking there)
+                ∙ is_there w.early_one-early.result c.rows-test.lacking there
+                ∙ sym (is_there w.early_one-early.result first-lacking there)
                 ∙ ap (λ y. or_else y first-lacking) e;
-            same = w.cells-is ∙ w.early-one-early.ensures.same ∙ w.loop-column.invariant.2 ∙ c.rows.invariant.2;
+            same = w.cells-is ∙ w.early_one-early.ensures.same ∙ w.loop-column.invariant.2 ∙ c.rows.invariant.2;
           }
     ]

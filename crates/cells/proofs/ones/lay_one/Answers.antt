@@ -7,32 +7,32 @@ use Rattle.cells.proofs.ones.lay_one.Goals as goal
 
 pub returns : goal.returns
 returns g c =
-    let there = sym c.in-Some.is ∙ c.cell-at.ensures.value in
+    let there = sym c.in-Some.is ∙ c.cell_at.ensures.value in
     let touch = touch_at c.args.place (g.M.Source.meaning c.args.mask.now) (g.I.Source.meaning c.args.image.now) in
     record {
       raised =
-          c.at-level.ensures.value c.args.column c.args.row
+          c.at_level.ensures.value c.args.column c.args.row
           ∙ ap (given 0 (at_level c.args.k c.args.column c.args.row)) there;
       passed =
-          c.above-level.ensures.value c.args.column c.args.row
+          c.above_level.ensures.value c.args.column c.args.row
           ∙ ap (given 0 (above_level c.args.k c.args.column c.args.row)) there;
-      bound = (c.at-level.ensures.bound, c.above-level.ensures.bound);
+      bound = (c.at_level.ensures.bound, c.above_level.ensures.bound);
       cells =
-          c.put-cell.ensures.cells
-          ∙ ap (λ xs. set xs c.args.at c.lay-cell.result) c.cell-at.ensures.same
-          ∙ ap (set c.args.cells.now c.args.at) c.lay-cell.ensures.value
+          c.put_cell.ensures.cells
+          ∙ ap (λ xs. set xs c.args.at c.lay_cell.result) c.cell_at.ensures.same
+          ∙ ap (set c.args.cells.now c.args.at) c.lay_cell.ensures.value
           ∙ changed-some (laid_cell g.C.Colour.blended c.args.k touch c.args.column c.args.row) c.args.cells.now c.args.at _ there;
     }
 
-pub returns-in-default : goal.returns-in-default
-returns-in-default g c =
-    let gone = sym c.in-default.is ∙ c.cell-at.ensures.value in
+pub returns-in_default : goal.returns-in_default
+returns-in_default g c =
+    let gone = sym c.in_default.is ∙ c.cell_at.ensures.value in
     let touch = touch_at c.args.place (g.M.Source.meaning c.args.mask.now) (g.I.Source.meaning c.args.image.now) in
     record {
       raised = ap (given 0 (at_level c.args.k c.args.column c.args.row)) gone;
       passed = ap (given 0 (above_level c.args.k c.args.column c.args.row)) gone;
       bound = omega arith;
       cells =
-          c.cell-at.ensures.same
+          c.cell_at.ensures.same
           ∙ changed-none (laid_cell g.C.Colour.blended c.args.k touch c.args.column c.args.row) c.args.cells.now c.args.at gone;
     }

@@ -5,14 +5,14 @@ use Rattle.cells.proofs.ones.tally_one.Goals as goal
 
 pub returns : goal.returns
 returns g c =
-    let there = sym c.in-Some.is ∙ c.cell-at.ensures.value in
+    let there = sym c.in-Some.is ∙ c.cell_at.ensures.value in
     record {
       finished =
-          c.at-level.ensures.value c.args.column c.args.row
+          c.at_level.ensures.value c.args.column c.args.row
           ∙ ap (given 0 (at_level c.args.full c.args.column c.args.row)) there;
       levels =
-          c.level-of.ensures.value c.args.column c.args.row
+          c.level_of.ensures.value c.args.column c.args.row
           ∙ ap (given 0 (level_of c.args.column c.args.row)) there;
-      bound = (c.at-level.ensures.bound, c.level-of.ensures.bound);
-      same = c.cell-at.ensures.same;
+      bound = (c.at_level.ensures.bound, c.level_of.ensures.bound);
+      same = c.cell_at.ensures.same;
     }

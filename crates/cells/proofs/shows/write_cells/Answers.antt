@@ -14,15 +14,15 @@ loop-row-init g c =
 pub loop-column-init : goal.loop-column-init
 loop-column-init g c = (writes-none _ _ _ _ _ _ _ c.loop-row.invariant.0.room, sums_none _ _ _ _ _ _ c.loop-row.invariant.1.bound)
 
-pub overflow-add-finished : goal.overflow-add-finished
-overflow-add-finished g c = omega (arith, c.loop-column.invariant.1.bound, c.index-of.ensures.value, c.index-of.ensures.bound)
+pub overflow_add-finished : goal.overflow_add-finished
+overflow_add-finished g c = omega (arith, c.loop-column.invariant.1.bound, c.index_of.ensures.value, c.index_of.ensures.bound)
 
 pub loop-column-preserved : goal.loop-column-preserved
 loop-column-preserved g c =
     let pane = c.args.pane in
     let ok = granted-from pane.area pane.window pane.passes in
     let held : Held pane.window c.loop-column.column c.loop-row.row = omega arith in
-    let is = c.index-of.ensures.value in
+    let is = c.index_of.ensures.value in
     let done = c.show-one-next.ensures in
     let few : c.show-one-next.result.1 < 65536 = omega (arith, done.bound) in (
       writes-next g.C.Colour.shown pane.area pane.window ok _ _ held _ is _ _ _ _ _ _ _ _ _ _ done.buffer done.next done.same c.loop-column.invariant.0,

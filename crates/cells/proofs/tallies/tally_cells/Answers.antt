@@ -9,20 +9,20 @@ loop-row-init g c = (sums_none _ _ _ _ _ _ (omega arith), sums_none _ _ _ _ _ _ 
 pub loop-column-init : goal.loop-column-init
 loop-column-init g c = (sums_none _ _ _ _ _ _ c.loop-row.invariant.0.bound, sums_none _ _ _ _ _ _ c.loop-row.invariant.1.bound, refl)
 
-pub overflow-add-finished : goal.overflow-add-finished
-overflow-add-finished g c = omega (arith, c.loop-column.invariant.0.bound, c.index-of.ensures.value, c.index-of.ensures.bound)
+pub overflow_add-finished : goal.overflow_add-finished
+overflow_add-finished g c = omega (arith, c.loop-column.invariant.0.bound, c.index_of.ensures.value, c.index_of.ensures.bound)
 
-pub overflow-add-levels : goal.overflow-add-levels
-overflow-add-levels g c = omega (arith, c.loop-column.invariant.1.bound, c.index-of.ensures.value, c.index-of.ensures.bound)
+pub overflow_add-levels : goal.overflow_add-levels
+overflow_add-levels g c = omega (arith, c.loop-column.invariant.1.bound, c.index_of.ensures.value, c.index_of.ensures.bound)
 
 pub loop-column-preserved : goal.loop-column-preserved
 loop-column-preserved g c =
     let pane = c.args.pane in
     let ok = granted-from pane.area pane.window pane.passes in
     let held : Held pane.window c.loop-column.column c.loop-row.row = omega arith in
-    let is = c.index-of.ensures.value in
-    let done = c.tally-one-done.ensures in
-    let few : c.tally-one-done.result.0 < 65536 = omega (arith, done.bound.0) in (
+    let is = c.index_of.ensures.value in
+    let done = c.tally_one-done.ensures in
+    let few : c.tally_one-done.result.0 < 65536 = omega (arith, done.bound.0) in (
       sums_same pane.area pane.window _ ok _ _ held _ is _ _ _ _ _ _ _ done.finished few done.same c.loop-column.invariant.0,
       sums_same pane.area pane.window _ ok _ _ held _ is _ _ _ _ _ _ _ done.levels done.bound.1 done.same c.loop-column.invariant.1,
       done.same ∙ c.loop-column.invariant.2,

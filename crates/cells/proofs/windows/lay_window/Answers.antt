@@ -26,29 +26,29 @@ module _ {C : Type 0} (k : ℕ) (touch : ℕ → ℕ → Touch C) (area window :
       ∙ sym (cond-true (granted a w) _ (Some Window) grant)
       ∙ ap₂ (λ x y. cond (granted x y) (or_else (first x y (out_of_turn k) cells) (first x y (missing k touch) cells)) (Some Window)) ea ew
 
-pub returns-in-default : goal.returns-in-default
-returns-in-default g c =
+pub returns-in_default : goal.returns-in_default
+returns-in_default g c =
     let touch = touch_at c.args.place (g.M.Source.meaning c.args.mask.now) (g.I.Source.meaning c.args.image.now) in
     let area = c.args.frame.area in
     let cells = c.args.cells.now in
-    let way = refused c.args.k touch area c.args.window cells c.in-default.ensures.answer in
+    let way = refused c.args.k touch area c.args.window cells c.in_default.ensures.answer in
     record {
       answer = ap (lay_counts c.args.k area c.args.window cells) way;
       cells = ap (laid_cells g.C.Colour.blended c.args.k touch area c.args.window cells) way;
     }
 
-pub returns-in-Some-first-obstacle : goal.returns-in-Some-first-obstacle
-returns-in-Some-first-obstacle g c =
+pub returns-in-Some-first_obstacle : goal.returns-in-Some-first_obstacle
+returns-in-Some-first_obstacle g c =
     let touch = touch_at c.args.place (g.M.Source.meaning c.args.mask.now) (g.I.Source.meaning c.args.image.now) in
     let area = c.args.frame.area in
     let cells = c.args.cells.now in
     let pane = c.in-Some.pane in
     let is = c.in-Some.ensures.answer in
     let way = sym c.in-Some-first-obstacle.is
-    ∙ tested c.args.k touch area c.args.window cells pane.area pane.window is.0 is.1 pane.passes c.first-obstacle.result c.first-obstacle.ensures.answer in
+    ∙ tested c.args.k touch area c.args.window cells pane.area pane.window is.0 is.1 pane.passes c.first_obstacle.result c.first_obstacle.ensures.answer in
     record {
       answer = ap (lay_counts c.args.k area c.args.window cells) way;
-      cells = c.first-obstacle.ensures.same ∙ ap (laid_cells g.C.Colour.blended c.args.k touch area c.args.window cells) way;
+      cells = c.first_obstacle.ensures.same ∙ ap (laid_cells g.C.Colour.blended c.args.k touch area c.args.window cells) way;
     }
 
 pub returns : goal.returns
@@ -58,16 +58,16 @@ returns g c =
     let cells = c.args.cells.now in
     let pane = c.in-Some.pane in
     let is = c.in-Some.ensures.answer in
-    let same = c.first-obstacle.ensures.same in
-    let way = sym c.in-default-first-obstacle.is
-    ∙ tested c.args.k touch area c.args.window cells pane.area pane.window is.0 is.1 pane.passes c.first-obstacle.result c.first-obstacle.ensures.answer in
-    let up = c.lay-cells.ensures.raised ∙ ap (total pane.area pane.window (at_level c.args.k)) same ∙ ap₂ (λ a w. total a w (at_level c.args.k) cells) is.0 is.1 in
-    let over = c.lay-cells.ensures.passed ∙ ap (total pane.area pane.window (above_level c.args.k)) same ∙ ap₂ (λ a w. total a w (above_level c.args.k) cells) is.0 is.1 in
+    let same = c.first_obstacle.ensures.same in
+    let way = sym c.in_default-first_obstacle.is
+    ∙ tested c.args.k touch area c.args.window cells pane.area pane.window is.0 is.1 pane.passes c.first_obstacle.result c.first_obstacle.ensures.answer in
+    let up = c.lay_cells.ensures.raised ∙ ap (total pane.area pane.window (at_level c.args.k)) same ∙ ap₂ (λ a w. total a w (at_level c.args.k) cells) is.0 is.1 in
+    let over = c.lay_cells.ensures.passed ∙ ap (total pane.area pane.window (above_level c.args.k)) same ∙ ap₂ (λ a w. total a w (above_level c.args.k) cells) is.0 is.1 in
     let lay = laid_cell g.C.Colour.blended c.args.k touch in
     record {
       answer = ap₂ (λ m n. Ok (m, n)) up over ∙ ap (lay_counts c.args.k area c.args.window cells) way;
       cells =
-          c.lay-cells.ensures.cells
+          c.lay_cells.ensures.cells
           ∙ ap (changed pane.area pane.window lay) same
           ∙ ap₂ (λ a w. changed a w lay cells) is.0 is.1
           ∙ ap (laid_cells g.C.Colour.blended c.args.k touch area c.args.window cells) way;

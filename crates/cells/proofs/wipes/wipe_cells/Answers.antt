@@ -10,16 +10,16 @@ loop-row-init g c = (sums_none _ _ _ _ _ _ (omega arith), changes-none _ _ _ _ _
 pub loop-column-init : goal.loop-column-init
 loop-column-init g c = (sums_none _ _ _ _ _ _ c.loop-row.invariant.0.bound, changes-none _ _ _ _ _)
 
-pub overflow-add-levels : goal.overflow-add-levels
-overflow-add-levels g c = omega (arith, c.loop-column.invariant.0.bound, c.index-of.ensures.value, c.index-of.ensures.bound)
+pub overflow_add-levels : goal.overflow_add-levels
+overflow_add-levels g c = omega (arith, c.loop-column.invariant.0.bound, c.index_of.ensures.value, c.index_of.ensures.bound)
 
 pub loop-column-preserved : goal.loop-column-preserved
 loop-column-preserved g c =
     let pane = c.args.pane in
     let ok = granted-from pane.area pane.window pane.passes in
     let held : Held pane.window c.loop-column.column c.loop-row.row = omega arith in
-    let is = c.index-of.ensures.value in
-    let done = c.wipe-one-levels.ensures in (
+    let is = c.index_of.ensures.value in
+    let done = c.wipe_one-levels.ensures in (
       sums_next pane.area pane.window level_of ok _ _ held _ is _ _ _ _ _ _ _ _ done.answer done.bound done.cells c.loop-column.invariant.0,
       changes-next pane.area pane.window (fresh c.args.colour) ok _ _ held _ is _ _ _ _ done.cells c.loop-column.invariant.1,
     )

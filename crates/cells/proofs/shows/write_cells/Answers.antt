@@ -23,8 +23,8 @@ loop-column-preserved g c =
     let ok = granted-from pane.area pane.window pane.passes in
     let held : Held pane.window c.loop-column.column c.loop-row.row = omega arith in
     let is = c.index_of.ensures.value in
-    let done = c.show-one-next.ensures in
-    let few : c.show-one-next.result.1 < 65536 = omega (arith, done.bound) in (
+    let done = c.show_one-next.ensures in
+    let few : c.show_one-next.result.1 < 65536 = omega (arith, done.bound) in (
       writes-next g.C.Colour.shown pane.area pane.window ok _ _ held _ is _ _ _ _ _ _ _ _ _ _ done.buffer done.next done.same c.loop-column.invariant.0,
       sums_same pane.area pane.window _ ok _ _ held _ is _ _ _ _ _ _ _ done.finished few done.same c.loop-column.invariant.1,
     )

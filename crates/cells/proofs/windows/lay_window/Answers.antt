@@ -44,7 +44,7 @@ returns-in-Some-first_obstacle g c =
     let cells = c.args.cells.now in
     let pane = c.in-Some.pane in
     let is = c.in-Some.ensures.answer in
-    let way = sym c.in-Some-first-obstacle.is
+    let way = sym c.in-Some-first_obstacle.is
     ∙ tested c.args.k touch area c.args.window cells pane.area pane.window is.0 is.1 pane.passes c.first_obstacle.result c.first_obstacle.ensures.answer in
     record {
       answer = ap (lay_counts c.args.k area c.args.window cells) way;

@@ -4,22 +4,22 @@ use Rattle.std.proofs.lemmas.Result.{err_from_is_err_and}
 use Rattle.reader.proofs.Walks.{walk-empty, walk-on, walk-off}
 use Rattle.reader.proofs.walk.walk.Goals as goal
 
-pub returns-in-err-size : goal.returns-in-err-size
-returns-in-err-size g c =
-    let p = err_from_is_err_and c.from-residual.result c.from-residual.ensures.1 in
+pub returns-in_err-size : goal.returns-in_err-size
+returns-in_err-size g c =
+    let p = err_from_is_err_and c.from_residual.result c.from_residual.ensures.1 in
     let some : 0 < length c.loop-rest.rest.now = omega (arith, false-eqb _ 0 c.loop-rest-test.ensures) in
     rw (p.1, p.2)
-    (record { after = sym (walk-off g.C.Container.rules _ _ _ _ _ some (sym c.in-err-size.ensures.after)) ∙ c.loop-rest.invariant.1 })
+    (record { after = sym (walk-off g.C.Container.rules _ _ _ _ _ some (sym c.in_err-size.ensures.after)) ∙ c.loop-rest.invariant.1 })
 
 pub loop-rest-preserved : goal.loop-rest-preserved
 loop-rest-preserved g c =
     let rest = c.loop-rest.rest.now in
-    let size = c.in-ok-size.size in
-    let w = c.in-ok-size.ensures.within in
+    let size = c.in_ok-size.size in
+    let w = c.in_ok-size.ensures.within in
     let some : 0 < length rest = omega arith in
     let before = c.loop-rest.invariant.0 in
     rw (take_rest rest size)
-    (rw (length-drop size rest) (omega arith), sym (walk-on g.C.Container.rules _ _ rest _ _ some (sym c.in-ok-size.ensures.after)) ∙ c.loop-rest.invariant.1)
+    (rw (length-drop size rest) (omega arith), sym (walk-on g.C.Container.rules _ _ rest _ _ some (sym c.in_ok-size.ensures.after)) ∙ c.loop-rest.invariant.1)
 
 pub returns : goal.returns
 returns g c =

@@ -6,5 +6,5 @@ pub returns : goal.returns
 returns c =
     record {
       value = omega arith;
-      buffer = copied c.args.out.now c.args.bytes.now c.copy-from-slice.new.self c.args.at _ c.copy-from-slice.ensures.after (omega arith);
+      buffer = copied c.args.out.now c.args.bytes.now c.copy_from_slice.new.self c.args.at _ c.copy_from_slice.ensures.after (omega arith);
     }

@@ -13,6 +13,6 @@ returns c =
     record {
       value = omega arith;
       buffer =
-          put_two o _ (collection_bytes h.collection) c.put-fields-next.new.out c.put-collection.new.out at c.put-fields-next.result (omega arith) c.put-fields-next.ensures.value c.put-fields-next.ensures.buffer c.put-collection.ensures.buffer
-          ∙ ap (put o at) (boxed phdr_code c.page-header-size.result (phdr_contents h c.args.nlobj) (omega arith));
+          put_two o _ (collection_bytes h.collection) c.put_fields-next.new.out c.put_collection.new.out at c.put_fields-next.result (omega arith) c.put_fields-next.ensures.value c.put_fields-next.ensures.buffer c.put_collection.ensures.buffer
+          ∙ ap (put o at) (boxed phdr_code c.page_header_size.result (phdr_contents h c.args.nlobj) (omega arith));
     }

@@ -17,5 +17,5 @@ returns-in-Separate c =
     (record {
       value = omega arith;
       buffer =
-          put_two c.args.out.now (objc mask types.Mask) (objc image types.Image) c.put-object-next.new.out c.put-object.new.out c.args.at c.put-object-next.result (omega arith) c.put-object-next.ensures.value c.put-object-next.ensures.buffer c.put-object.ensures.buffer;
+          put_two c.args.out.now (objc mask types.Mask) (objc image types.Image) c.put_object-next.new.out c.put_object.new.out c.args.at c.put_object-next.result (omega arith) c.put_object-next.ensures.value c.put_object-next.ensures.buffer c.put_object.ensures.buffer;
     })

@@ -7,17 +7,17 @@ use Rattle.writer.specs.Written.{box, lhdr, lobj, objcs}
 use Rattle.writer.proofs.Puts.{put_three, boxed}
 use Rattle.writer.proofs.rows.put_row.Goals as goal
 
-pub put-box-header-next-requires : goal.put-box-header-next-requires
+pub put_box_header-next-requires : goal.put_box_header-next-requires
 unfolding lobj
-put-box-header-next-requires c = omega arith
+put_box_header-next-requires c = omega arith
 
-pub put-layout-header-next-requires : goal.put-layout-header-next-requires
+pub put_layout_header-next-requires : goal.put_layout_header-next-requires
 unfolding lobj
-put-layout-header-next-requires c = omega arith
+put_layout_header-next-requires c = omega arith
 
-pub put-objects-requires : goal.put-objects-requires
+pub put_objects-requires : goal.put_objects-requires
 unfolding lobj
-put-objects-requires c = omega arith
+put_objects-requires c = omega arith
 
 pub returns : goal.returns
 unfolding lobj
@@ -29,7 +29,7 @@ returns c =
     record {
       value = omega arith;
       buffer =
-          put_three o (digits 4 c.row-size.result ++ digits 4 lobj_code) (lhdr row.layout style) (objcs row.objects) c.put-box-header-next.new.out c.put-layout-header-next.new.out c.put-objects.new.out at c.put-box-header-next.result c.put-layout-header-next.result (omega arith) c.put-box-header-next.ensures.value c.put-layout-header-next.ensures.value c.put-box-header-next.ensures.buffer c.put-layout-header-next.ensures.buffer c.put-objects.ensures.buffer
-          ∙ ap (put o at) (boxed lobj_code c.row-size.result (lhdr row.layout style ++ objcs row.objects) (omega arith))
+          put_three o (digits 4 c.row_size.result ++ digits 4 lobj_code) (lhdr row.layout style) (objcs row.objects) c.put_box_header-next.new.out c.put_layout_header-next.new.out c.put_objects.new.out at c.put_box_header-next.result c.put_layout_header-next.result (omega arith) c.put_box_header-next.ensures.value c.put_layout_header-next.ensures.value c.put_box_header-next.ensures.buffer c.put_layout_header-next.ensures.buffer c.put_objects.ensures.buffer
+          ∙ ap (put o at) (boxed lobj_code c.row_size.result (lhdr row.layout style ++ objcs row.objects) (omega arith))
           ∙ ap (λ s. put o at (box lobj_code (lhdr row.layout s ++ objcs row.objects))) c.style.ensures.value;
     }

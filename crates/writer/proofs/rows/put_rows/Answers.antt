@@ -9,8 +9,8 @@ use Rattle.writer.proofs.rows.put_rows.Goals as goal
 pub loop-i-init : goal.loop-i-init
 loop-i-init c = put-start lobj c.args.out.now c.args.at (page_of c.args.plan.now).rows
 
-pub put-row-next-requires : goal.put-row-next-requires
-put-row-next-requires c =
+pub put_row-next-requires : goal.put_row-next-requires
+put_row-next-requires c =
     let p = c.args.plan.now in
     let used = length-used p.rows p.count (omega (arith, p.few, p.places)) in
     put-room lobj c.args.out.now c.args.at (page_of p).rows c.requires c.loop-i.i c.loop-i.next c.loop-i.out _ _ (omega arith) (get_or-take p.count p.rows c.loop-i.i _ (omega arith)) c.loop-i.invariant
@@ -19,7 +19,7 @@ pub loop-i-preserved : goal.loop-i-preserved
 loop-i-preserved c =
     let p = c.args.plan.now in
     let used = length-used p.rows p.count (omega (arith, p.few, p.places)) in
-    put-more lobj c.args.out.now c.args.at (page_of p).rows c.requires c.loop-i.i c.loop-i.next c.loop-i.out _ _ (omega arith) (get_or-take p.count p.rows c.loop-i.i _ (omega arith)) c.loop-i.invariant _ _ c.put-row-next.ensures.value c.put-row-next.ensures.buffer
+    put-more lobj c.args.out.now c.args.at (page_of p).rows c.requires c.loop-i.i c.loop-i.next c.loop-i.out _ _ (omega arith) (get_or-take p.count p.rows c.loop-i.i _ (omega arith)) c.loop-i.invariant _ _ c.put_row-next.ensures.value c.put_row-next.ensures.buffer
 
 pub returns : goal.returns
 returns c =

@@ -12,7 +12,7 @@ loop-i-preserved c =
     let p = c.args.plan.now in
     let i = c.loop-i.i in
     let used = length-used p.rows p.count (omega (arith, p.few, p.places)) in (
-      ap₂ (λ a b. a + b) c.loop-i.invariant.0 c.row-size-size.ensures.value
+      ap₂ (λ a b. a + b) c.loop-i.invariant.0 c.row_size-size.ensures.value
           ∙ sym (joined_length lobj (page_of p).rows i _ _ (omega arith) (get_or-take p.count p.rows i _ (omega arith))),
       omega (arith, c.loop-i.invariant.1),
     )

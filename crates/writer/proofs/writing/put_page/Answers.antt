@@ -24,12 +24,12 @@ returns c =
     let r = res p.resolution in
     let d = flat_map lobj rows in
     let law = written-length (page_of p) in
-    let whole : c.put-rows.new.out ≡ put o 0 (written (page_of p)) =
-    put_four o a b r d c.put-box-header-next.new.out c.put-page-header-next.new.out c.put-resolution-next.new.out c.put-rows.new.out 0 c.put-box-header-next.result c.put-page-header-next.result c.put-resolution-next.result (omega arith) c.put-box-header-next.ensures.value c.put-page-header-next.ensures.value c.put-resolution-next.ensures.value c.put-box-header-next.ensures.buffer c.put-page-header-next.ensures.buffer c.put-resolution-next.ensures.buffer c.put-rows.ensures.buffer
+    let whole : c.put_rows.new.out ≡ put o 0 (written (page_of p)) =
+    put_four o a b r d c.put_box_header-next.new.out c.put_page_header-next.new.out c.put_resolution-next.new.out c.put_rows.new.out 0 c.put_box_header-next.result c.put_page_header-next.result c.put_resolution-next.result (omega arith) c.put_box_header-next.ensures.value c.put_page_header-next.ensures.value c.put_resolution-next.ensures.value c.put_box_header-next.ensures.buffer c.put_page_header-next.ensures.buffer c.put_resolution-next.ensures.buffer c.put_rows.ensures.buffer
     ∙ ap (λ n. put o 0 (digits 4 size ++ (digits 4 page_code ++ (phdr p.header n ++ (r ++ d))))) used
     ∙ ap (put o 0) (boxed page_code size (page_contents (page_of p)) (omega arith)) in
     record {
       value = omega arith;
       buffer = whole;
-      front = ap (take c.put-rows.result) whole ∙ put_front o (written (page_of p)) c.put-rows.result (omega arith);
+      front = ap (take c.put_rows.result) whole ∙ put_front o (written (page_of p)) c.put_rows.result (omega arith);
     }

@@ -3,12 +3,12 @@ use Rattle.plan.specs.Laws.{has_id, distinct_ids}
 use Rattle.reader.proofs.Ids.{distinct_push, used-push, blank-push, pushed-new}
 use Rattle.reader.proofs.drafts.PageDraft.push.Goals as goal
 
-pub invariant-of-self : goal.invariant-of-self
-invariant-of-self c =
+pub invariant_of-self : goal.invariant_of-self
+invariant_of-self c =
     let s = c.args.self.now in
     let row = c.args.row in
     let new : has_id row.layout.lobjid (take s.used s.rows) ≡ false =
-    sym (c.if-not-has-id.ensures.value ∙ ap (has_id row.layout.lobjid) c.first-rows.ensures.value) in (
+    sym (c.if-not-has_id.ensures.value ∙ ap (has_id row.layout.lobjid) c.first_rows.ensures.value) in (
       s.sized,
       (
         s.whole,
@@ -25,12 +25,12 @@ invariant-of-self c =
       ),
     )
 
-pub returns-then-not-has-id : goal.returns-then-not-has-id
-returns-then-not-has-id c =
+pub returns-then-not-has_id : goal.returns-then-not-has_id
+returns-then-not-has_id c =
     let s = c.args.self.now in
     let row = c.args.row in
     let new : has_id row.layout.lobjid (take s.used s.rows) ≡ false =
-    sym (c.if-not-has-id.ensures.value ∙ ap (has_id row.layout.lobjid) c.first-rows.ensures.value) in
+    sym (c.if-not-has_id.ensures.value ∙ ap (has_id row.layout.lobjid) c.first_rows.ensures.value) in
     let room : length (take s.used s.rows) < 64 = omega (arith, length-take s.used s.rows) in
     record {
       rows = used-push s.rows s.used row (omega arith) s.places ∙ sym (pushed-new (take s.used s.rows) row room new);

@@ -10,7 +10,7 @@ pub returns : goal.returns
 returns g c =
     let memory = c.args.memory.now in
     let colour = c.args.colour in
-    let area = c.frame-of-frame.ensures.area in
+    let area = c.frame_of-frame.ensures.area in
     record {
       area = area;
       cells =

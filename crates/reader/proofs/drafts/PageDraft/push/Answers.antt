@@ -8,22 +8,15 @@ invariant_of-self c =
     let s = c.args.self.now in
     let row = c.args.row in
     let new : has_id row.layout.lobjid (take s.used s.rows) ≡ false =
-    sym (c.if-not-has_id.ensures.value ∙ ap (has_id row.layout.lobjid) c.first_rows.ensures.value) in (
-      s.sized,
-      (
-        s.whole,
-        (
-          omega arith,
-          (
-            length-set s.rows s.used row ∙ s.places,
-            (
-              ap distinct_ids (used-push s.rows s.used row (omega arith) s.places) ∙ distinct_push (take s.used s.rows) row s.distinct new,
-              (blank-push s.rows s.used row (omega arith) s.places s.blank, tt),
-            ),
-          ),
-        ),
-      ),
-    )
+    sym (c.if-not-has_id.ensures.value ∙ ap (has_id row.layout.lobjid) c.first_rows.ensures.value) in
+    record {
+      sized = s.sized;
+      whole = s.whole;
+      few = omega arith;
+      places = length-set s.rows s.used row ∙ s.places;
+      distinct = ap distinct_ids (used-push s.rows s.used row (omega arith) s.places) ∙ distinct_push (take s.used s.rows) row s.distinct new;
+      blank = blank-push s.rows s.used row (omega arith) s.places s.blank;
+    }
 
 pub returns-then-not-has_id : goal.returns-then-not-has_id
 returns-then-not-has_id c =

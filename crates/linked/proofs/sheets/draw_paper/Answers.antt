@@ -15,6 +15,6 @@ returns c =
     let sheet = λ (m : Meaning Cover) (i : Meaning Paper). drawn_sheet paper_blended c.args.file.now c.args.wide c.args.high (room colour) colour c.args.count m i in
     let buffer = λ (m : Meaning Cover) (i : Meaning Paper). shown_in paper_shown 1 (sheet m i) (corner c.args.wide c.args.high) c.args.buffer.now in
     record {
-      answer = c.draw-sheet.ensures.answer ∙ ap (λ m. finished (sheet m image)) c.new-mask.ensures.value;
-      buffer = c.draw-sheet.ensures.buffer ∙ ap (λ m. buffer m image) c.new-mask.ensures.value;
+      answer = c.draw_sheet.ensures.answer ∙ ap (λ m. finished (sheet m image)) c.new-mask.ensures.value;
+      buffer = c.draw_sheet.ensures.buffer ∙ ap (λ m. buffer m image) c.new-mask.ensures.value;
     }

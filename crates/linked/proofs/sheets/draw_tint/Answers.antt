@@ -13,6 +13,6 @@ returns c =
     let sheet = λ (m : Meaning Cover) (i : Meaning Tint). drawn_sheet tint_blended c.args.file.now c.args.wide c.args.high (room colour) colour c.args.count m i in
     let buffer = λ (m : Meaning Cover) (i : Meaning Tint). shown_in tint_shown 3 (sheet m i) (corner c.args.wide c.args.high) c.args.buffer.now in
     record {
-      answer = c.draw-sheet.ensures.answer ∙ ap₂ (λ m i. finished (sheet m i)) c.new-mask.ensures.value c.new-image.ensures.value;
-      buffer = c.draw-sheet.ensures.buffer ∙ ap₂ buffer c.new-mask.ensures.value c.new-image.ensures.value;
+      answer = c.draw_sheet.ensures.answer ∙ ap₂ (λ m i. finished (sheet m i)) c.new-mask.ensures.value c.new-image.ensures.value;
+      buffer = c.draw_sheet.ensures.buffer ∙ ap₂ buffer c.new-mask.ensures.value c.new-image.ensures.value;
     }

@@ -1,11 +1,10 @@
 -- What a granted header says of the box. Assumes nothing.
-use Rattle.std.proofs.Common.{◌≡◌, ℕ, zero, suc, ◌+◌, ◌*◌, ◌^◌, ◌<◌, ◌≤◌, Bool, true, false, cond, eqb, ltb, List, [], ◌∷◌, ◌++◌, length, get_or, Ok, Err, Result, sym, refl, ap, ◌∙◌, arith, lit≤, length-append, ltb-false, le-ltb}
+use Rattle.std.proofs.Common.{◌≡◌, ℕ, zero, suc, ◌+◌, ◌*◌, ◌^◌, ◌<◌, ◌≤◌, Bool, true, false, cond, eqb, List, [], ◌∷◌, ◌++◌, length, get_or, Ok, sym, refl, ap, ◌∙◌, arith, lit≤, length-append, ltb-false, le-ltb}
 use Rattle.std.proofs.lemmas.List.{get_or_append_left}
 use Rattle.boxes.specs.Field.{field}
 use Rattle.boxes.specs.Frame.{framed, frame_tests, frame_made, type_code, short_length, header_size, box_size, Within}
 use Rattle.boxes.specs.Tests.{Test, unless, first_failure, or_else, judged}
 use Rattle.boxes.specs.declared.frame.Frame.{Frame}
-use Rattle.boxes.specs.declared.reason.Reason.{Reason}
 
 -- every test passes
 abbrev pub Pass : List Test → Type 0

@@ -1,6 +1,5 @@
 -- The table of box types, and the tests of where a box stands. Assumes nothing.
 use Rattle.std.specs.Prelude.{ℕ, Bool, true, false, cond, not, ◌&&◌, List, [], ◌∷◌, Some, None, Option, ◌==◌, nat_le}
-use Rattle.boxes.specs.declared.reason.Reason.{Reason}
 use Rattle.boxes.specs.declared.reason.Reason.TheVariants.{Misplaced, TooManyObjects}
 use Rattle.boxes.specs.declared.table.Entry.{Entry}
 use Rattle.boxes.specs.declared.table.Kind.{Kind}

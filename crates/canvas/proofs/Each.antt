@@ -1,6 +1,6 @@
 -- What holds of each element of a list with its index, and sums over lists that are changed.
 -- Assumes nothing.
-use Rattle.std.proofs.Common.{◌≡◌, ℕ, zero, suc, ◌+◌, List, [], ◌∷◌, length, Some, None, Option, sym, refl, ap, ◌∙◌, subst, arith}
+use Rattle.std.proofs.Common.{◌≡◌, ℕ, zero, suc, ◌+◌, List, [], ◌∷◌, length, Some, None, Option, refl, ap, subst, arith}
 use Rattle.std.specs.List.{slice_get}
 use Rattle.cells.specs.Gathers.{changed_from, gathered_from, or_else}
 

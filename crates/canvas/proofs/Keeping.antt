@@ -4,7 +4,7 @@ use Rattle.std.proofs.Common.{◌≡◌, ℕ, zero, suc, ◌+◌, ◌-◌, ◌*�
 use Rattle.std.specs.List.{slice_get}
 use Rattle.std.specs.Option.{option_map}
 use Rattle.std.proofs.lemmas.Nat.{mul-add-lt}
-use Rattle.std.proofs.lemmas.Bool.{cond-true, cond-false, leb-true, true≢false}
+use Rattle.std.proofs.lemmas.Bool.{cond-true, leb-true}
 use Rattle.plan.specs.declared.layout.Row.{Row}
 use Rattle.raster.specs.Covers.{full_cover}
 use Rattle.raster.specs.Meanings.{Meaning}
@@ -12,10 +12,10 @@ use Rattle.raster.specs.Touches.{touch_at}
 use Rattle.raster.specs.declared.covers.Cover.{Cover}
 use Rattle.raster.specs.declared.touches.Placement.{Placement}
 use Rattle.raster.specs.declared.touches.Touch.{Touch}
-use Rattle.cells.specs.Gathers.{changed, total, first, or_else, change_at}
-use Rattle.cells.specs.Outcomes.{in_the_way, lay_counts, laid_cells, wipe_answer, wiped_cells}
-use Rattle.cells.specs.Passes.{fresh, laid_cell, at_level, level_of, out_of_turn, missing}
-use Rattle.cells.specs.Windows.{wide, high, holds, column_at, row_at, index_at, inside, granted}
+use Rattle.cells.specs.Gathers.{changed, total, first, or_else}
+use Rattle.cells.specs.Outcomes.{in_the_way, lay_counts, laid_cells}
+use Rattle.cells.specs.Passes.{fresh, laid_cell, level_of, out_of_turn, missing}
+use Rattle.cells.specs.Windows.{wide, high, holds, index_at, inside, granted}
 use Rattle.cells.specs.declared.rectangles.Rectangle.{Rectangle}
 use Rattle.cells.specs.declared.refusals.Refusal.{Refusal}
 use Rattle.cells.specs.declared.refusals.Refusal.TheVariants.{Window}
@@ -26,9 +26,9 @@ use Rattle.canvas.proofs.Opening.{memory-is}
 use Rattle.canvas.proofs.Running.{Sound, each_laid, each-wiped, each-fresh, standing-laid, standing-wiped, standing-fresh}
 use Rattle.canvas.proofs.Stacking.{agreed}
 use Rattle.canvas.specs.Placements.{placement_of}
-use Rattle.canvas.specs.Runs.{Run, opening, laying, wiping, showing, raised_by, wiped_by, Stands, Alike, Faithful, Promise}
-use Rattle.canvas.specs.Sheets.{Sheet, Handed, Belongs, colour_to, visible, Agree}
-use Rattle.canvas.specs.Views.{View, lawful, check_answer, area_by, memory_by, opened, object_at, lay_object, object_cells, lay_answer, laid, levels_wiped, wiped, standing, cell_at}
+use Rattle.canvas.specs.Runs.{Run, opening, laying, wiping, showing, raised_by, wiped_by, Stands, Promise}
+use Rattle.canvas.specs.Sheets.{Sheet, Handed, colour_to}
+use Rattle.canvas.specs.Views.{View, lawful, check_answer, area_by, opened, object_at, lay_object, object_cells, lay_answer, laid, levels_wiped, wiped, standing, cell_at}
 
 -- what each step of a run keeps: the page, the colours, the balance, and memory enough for every cell
 pub record Keeps {C : Type 0} (blended : C → C → Cover → C) (sheet : Sheet C) (v : View C) (up down : ℕ) : Type 0 where

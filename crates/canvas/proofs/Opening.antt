@@ -1,6 +1,6 @@
 -- A canvas that is opened.
 -- Assumes nothing.
-use Rattle.std.proofs.Common.{◌≡◌, ℕ, true, false, List, Ok, Err, Result, sym, refl, ap, ◌∙◌, arith}
+use Rattle.std.proofs.Common.{◌≡◌, ℕ, false, List, Ok, Err, Result, refl, arith}
 use Rattle.std.proofs.lemmas.Bool.{cond-false}
 use Rattle.cells.specs.Gathers.{changed, change_at}
 use Rattle.cells.specs.Passes.{fresh}

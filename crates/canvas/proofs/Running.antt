@@ -1,26 +1,21 @@
 -- What every run keeps.
 -- Assumes nothing.
-use Rattle.std.proofs.Common.{◌≡◌, ℕ, ◌+◌, ◌*◌, ◌<◌, ◌≤◌, Bool, true, false, cond, eqb, ◌⊎◌, List, [], ◌∷◌, length, Some, None, Ok, Err, Option, Result, sym, refl, ap, ◌∙◌, subst, ap₂, inl, inr, zero-add, arith}
+use Rattle.std.proofs.Common.{◌≡◌, ℕ, ◌+◌, Bool, true, false, cond, eqb, List, Some, None, sym, refl, ap, ◌∙◌, ap₂, zero-add, arith}
 use Rattle.std.specs.List.{slice_get}
-use Rattle.std.specs.Option.{option_map}
-use Rattle.std.proofs.lemmas.Bool.{cond-true, cond-false, eqb-true, cases_Bool}
-use Rattle.plan.specs.Page.{Page}
+use Rattle.std.proofs.lemmas.Bool.{eqb-true}
 use Rattle.plan.specs.declared.layout.Row.{Row}
 use Rattle.raster.specs.Meanings.{Meaning}
 use Rattle.raster.specs.Touches.{touch_at}
 use Rattle.raster.specs.declared.covers.Cover.{Cover}
-use Rattle.raster.specs.declared.touches.Placement.{Placement}
 use Rattle.raster.specs.declared.touches.Touch.{Touch}
-use Rattle.cells.specs.Gathers.{changed_from, gathered_from, change_at, gather_at, changed, total, first, or_else}
-use Rattle.cells.specs.Outcomes.{in_the_way, lay_counts, laid_cells}
-use Rattle.cells.specs.Passes.{laid_over, fresh, laid_cell, at_level, level_of, out_of_turn, missing, missing_touch}
-use Rattle.cells.specs.Windows.{wide, high, column_at, row_at, inside, granted}
+use Rattle.cells.specs.Gathers.{gathered_from, change_at, gather_at, changed, total, first}
+use Rattle.cells.specs.Passes.{laid_over, fresh, laid_cell, at_level, level_of, missing, missing_touch}
+use Rattle.cells.specs.Windows.{column_at, row_at, inside, granted}
 use Rattle.cells.specs.declared.rectangles.Rectangle.{Rectangle}
-use Rattle.cells.specs.declared.refusals.Refusal.{Refusal}
 use Rattle.cells.specs.declared.stored.Cell.{Cell}
-use Rattle.cells.proofs.Places.{Held, held_from, held_test, Granted, granted-from}
+use Rattle.cells.proofs.Places.{Held, held_from, held_test, granted-from}
 use Rattle.cells.proofs.Steps.{gathered_none}
-use Rattle.canvas.proofs.Each.{Each, each_all, each_changed, each_none, sum_changed, sum_both, changed-length}
+use Rattle.canvas.proofs.Each.{Each, each_all, each_changed, each_none, sum_changed, sum_both}
 use Rattle.canvas.proofs.Stacking.{colour-next}
 use Rattle.canvas.proofs.Touching.{same-touch}
 use Rattle.canvas.specs.Placements.{placement_of}

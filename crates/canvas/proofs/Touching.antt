@@ -8,7 +8,7 @@ use Rattle.raster.specs.declared.sources.Look.{Look}
 use Rattle.raster.specs.declared.sources.Look.TheVariants.{Outside, Missing, Found}
 use Rattle.raster.specs.declared.touches.Placement.{Placement}
 use Rattle.raster.specs.declared.touches.Touch.{Touch}
-use Rattle.raster.specs.declared.touches.Touch.TheVariants.{Bare, MaskMissing, ImageMissing, Dab}
+use Rattle.raster.specs.declared.touches.Touch.TheVariants.{Bare, MaskMissing}
 use Rattle.cells.specs.Passes.{missing_touch}
 use Rattle.canvas.specs.Sheets.{Belongs}
 

@@ -2,13 +2,13 @@
 -- The page is 4 wide and 2 high, grey 200. Object 0 covers columns 1 and 2 of both rows with grey 0 at cover 128; object 1 begins at
 -- column 2 of row 1 with grey 30 at full cover, and its mask and image have one place. The canvas is the page.
 -- Assumes nothing.
-use Rattle.std.specs.Prelude.{◌≡◌, ℕ, ◌+◌, false, List, [], ◌∷◌, map, replicate, pos, Some, None, Ok, Err, Result}
-use Rattle.plan.specs.Page.{Page, blank_header, blank_resolution}
+use Rattle.std.specs.Prelude.{◌≡◌, ℕ, ◌+◌, false, List, [], ◌∷◌, map, replicate, Some, None, Ok, Err, Result}
+use Rattle.plan.specs.Page.{Page, blank_resolution}
 use Rattle.plan.specs.declared.layout.Objects.TheVariants.{Separate}
 use Rattle.plan.specs.declared.layout.Object.{Object}
 use Rattle.plan.specs.declared.layout.Row.{Row}
 use Rattle.raster.specs.Blends.{grey_blended, paper_blended}
-use Rattle.raster.specs.Meanings.{Meaning, uniform, arrived}
+use Rattle.raster.specs.Meanings.{uniform, arrived}
 use Rattle.raster.specs.declared.covers.Cover.{Cover}
 use Rattle.raster.specs.declared.greys.Grey.{Grey}
 use Rattle.raster.specs.declared.papers.Paper.TheVariants.{Blank, Ink}

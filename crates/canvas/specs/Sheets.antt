@@ -1,6 +1,6 @@
 -- Sheets: what a page would look like with every sample there.
 -- Assumes nothing.
-use Rattle.std.specs.Prelude.{◌≡◌, ℕ, suc, ◌<◌, true, List, [], ◌∷◌, ◌++◌, length, take, is_some, Some, None, Option}
+use Rattle.std.specs.Prelude.{◌≡◌, ℕ, suc, ◌<◌, true, List, [], ◌∷◌, ◌++◌, length, take, is_some, Some}
 use Rattle.plan.specs.Page.{Page}
 use Rattle.plan.specs.declared.layout.Row.{Row}
 use Rattle.raster.specs.Covers.{full_cover}

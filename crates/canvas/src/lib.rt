@@ -1,4 +1,6 @@
 // A canvas: a rectangle of a page, drawn window by window while samples still come in.
+#![tactic(auto)]
+
 mod canvases;
 mod cases;
 mod checks;

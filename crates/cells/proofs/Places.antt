@@ -1,9 +1,9 @@
 -- Where cells lie: all reasoning on quotients and remainders, and on the tests of rectangles and windows.
 -- Assumes nothing.
-use Rattle.std.proofs.Common.{◌≡◌, ℕ, suc, ◌+◌, ◌-◌, ◌*◌, ◌/◌, ◌%◌, ◌<◌, ◌≤◌, Bool, true, false, ◌&&◌, ltb, leb, ◌⊎◌, sym, refl, ap, ◌∙◌, inl, inr, ⊎_elim, mul-le-mul_right, mod-lt, suc-mul, div-add-mod', arith}
+use Rattle.std.proofs.Common.{◌≡◌, ℕ, suc, ◌+◌, ◌-◌, ◌*◌, ◌/◌, ◌%◌, ◌<◌, ◌≤◌, Bool, true, false, ◌&&◌, ltb, leb, ◌⊎◌, sym, refl, ap, ◌∙◌, inl, inr, mul-le-mul_right, mod-lt, suc-mul, div-add-mod', arith}
 use Rattle.std.proofs.lemmas.Nat.{div-mul-add, mod-mul-add}
-use Rattle.std.proofs.lemmas.Bool.{and_parts, and_from, leb-true, ltb-true, le-leb, lt-ltb, lt-leb, cases_lt, cases_Bool, both_ways, and_right, and_left}
-use Rattle.cells.specs.Windows.{wide, high, holds, column_at, row_at, index_at, inside, spanned, granted}
+use Rattle.std.proofs.lemmas.Bool.{and_parts, and_from, leb-true, ltb-true, le-leb, lt-ltb, lt-leb, cases_lt, and_left}
+use Rattle.cells.specs.Windows.{wide, holds, column_at, row_at, index_at, inside, spanned, granted}
 use Rattle.cells.specs.declared.rectangles.Rectangle.{Rectangle}
 
 -- two tests that pass together are equal

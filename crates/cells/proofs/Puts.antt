@@ -1,6 +1,6 @@
 -- What a cell shows, put into a buffer that has room for it, and nothing put where there is no cell.
 -- Assumes nothing.
-use Rattle.std.proofs.Common.{◌≡◌, ℕ, ◌+◌, ◌≤◌, Bool, true, false, cond, List, [], length, sym, refl, add-zero}
+use Rattle.std.proofs.Common.{◌≡◌, ℕ, ◌+◌, ◌≤◌, Bool, true, false, cond, List, [], length, refl, add-zero}
 use Rattle.std.proofs.lemmas.Bool.{le-leb, cond-true}
 use Rattle.raster.specs.Shown.{put, room, put_buffer}
 use Rattle.raster.proofs.Puts.{put-none}

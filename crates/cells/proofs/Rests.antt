@@ -1,9 +1,9 @@
 -- What is left to do in a window from a cell on: where a pass starts, one cell further, from row to row, and at the end.
 -- Assumes nothing.
-use Rattle.std.proofs.Common.{◌≡◌, ℕ, ◌+◌, ◌<◌, ◌≤◌, Bool, true, false, cond, ◌≢◌, ◌⊎◌, List, [], ◌∷◌, sym, refl, ap, ◌∙◌, inl, inr, zero-add, arith}
+use Rattle.std.proofs.Common.{◌≡◌, ℕ, ◌+◌, ◌<◌, ◌≤◌, cond, ◌≢◌, ◌⊎◌, List, sym, ap, ◌∙◌, inl, inr, zero-add, arith}
 use mathlib.Core.Path.{fun_ext}
 use Rattle.std.proofs.lemmas.Bool.{cond-true, cond-false, cases_order}
-use Rattle.cells.specs.Windows.{column_at, row_at, index_at, inside, granted}
+use Rattle.cells.specs.Windows.{column_at, row_at, index_at, inside}
 use Rattle.cells.specs.Gathers.{changed_from, gathered_from, changed_one, gathered_one, change_at, gather_at}
 use Rattle.cells.specs.declared.rectangles.Rectangle.{Rectangle}
 use Rattle.cells.proofs.Places.{Held, Granted, Next, rest, next, rest-start, rest_end, rest-row, inside-index, index_next, column-index, row-index}

@@ -1,7 +1,6 @@
 -- Lists changed and gathered from by functions of the index: one index further.
 -- Assumes nothing.
-use Rattle.std.proofs.Common.{◌≡◌, ℕ, zero, suc, ◌+◌, ◌<◌, ◌≤◌, ◌≢◌, List, [], ◌∷◌, sym, refl, ap, ◌∙◌, ap₂, add-zero, add-suc, suc-add, arith}
-use Rattle.std.specs.List.{slice_get}
+use Rattle.std.proofs.Common.{◌≡◌, ℕ, zero, suc, ◌+◌, ◌<◌, ◌≤◌, ◌≢◌, List, [], ◌∷◌, sym, refl, ap, ◌∙◌, ap₂, arith}
 use Rattle.cells.specs.Gathers.{changed_from, gathered_from, changed_one, gathered_one}
 
 -- functions that agree from an index on

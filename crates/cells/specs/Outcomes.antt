@@ -1,6 +1,6 @@
 -- What the calls on a window answer and leave: refused, they leave everything as it was.
 -- Assumes nothing.
-use Rattle.std.specs.Prelude.{ℕ, Bool, cond, List, Some, None, Ok, Err, Option, Result}
+use Rattle.std.specs.Prelude.{ℕ, cond, List, Some, None, Ok, Err, Option, Result}
 use Rattle.raster.specs.declared.covers.Cover.{Cover}
 use Rattle.raster.specs.declared.touches.Touch.{Touch}
 use Rattle.cells.specs.Gathers.{changed, total, first, or_else}

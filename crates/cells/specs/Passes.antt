@@ -1,6 +1,6 @@
 -- What each call does to one cell, and what it learns from one.
 -- Assumes nothing.
-use Rattle.std.specs.Prelude.{ℕ, ◌+◌, Bool, cond, List, Some, None, Option, ◌==◌, nat_lt}
+use Rattle.std.specs.Prelude.{ℕ, ◌+◌, cond, List, Some, None, Option, ◌==◌, nat_lt}
 use Rattle.raster.specs.declared.covers.Cover.{Cover}
 use Rattle.raster.specs.declared.touches.Touch.{Touch}
 use Rattle.raster.specs.declared.touches.Touch.TheVariants.{Bare, MaskMissing as MaskGone, ImageMissing as ImageGone, Dab}

@@ -1,4 +1,6 @@
 // The cells of a canvas: where they lie, what each call does to one of them, and the passes over a window.
+#![tactic(auto)]
+
 mod frames;
 mod grants;
 mod lays;

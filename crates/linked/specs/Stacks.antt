@@ -1,6 +1,6 @@
 -- A canvas drawn from the bottom up.
 -- Assumes nothing.
-use Rattle.std.specs.Prelude.{ℕ, zero, suc, List}
+use Rattle.std.specs.Prelude.{ℕ, zero, suc}
 use Rattle.raster.specs.Meanings.{Meaning}
 use Rattle.raster.specs.declared.covers.Cover.{Cover}
 use Rattle.cells.specs.declared.rectangles.Rectangle.{Rectangle}

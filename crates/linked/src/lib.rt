@@ -1,4 +1,6 @@
 // Functions with C's calling convention, for programs in C or Rust that link the library, and for the benchmarks.
+#![tactic(auto)]
+
 mod sheets;
 mod stacks;
 

@@ -1,9 +1,6 @@
 -- What makes a plan lawful. Assumes nothing.
-use Rattle.std.specs.Prelude.{◌≡◌, ℕ, ◌-◌, Bool, true, false, cond, not, ◌&&◌, ◌||◌, List, [], ◌∷◌, take, drop, replicate, ◌==◌}
-use Rattle.plan.specs.declared.layout.Layout.{Layout}
-use Rattle.plan.specs.declared.layout.Object.{Object}
-use Rattle.plan.specs.declared.layout.Objects.{Objects}
-use Rattle.plan.specs.declared.layout.Objects.TheVariants.{Separate, Both, Image, Mask}
+use Rattle.std.specs.Prelude.{◌≡◌, ℕ, ◌-◌, Bool, true, false, not, ◌&&◌, ◌||◌, List, [], ◌∷◌, take, drop, replicate, ◌==◌}
+use Rattle.plan.specs.declared.layout.Objects.TheVariants.{Mask}
 use Rattle.plan.specs.declared.layout.Row.{Row}
 use Rattle.plan.specs.declared.page.PageHeader.{PageHeader}
 use Rattle.plan.specs.declared.page.Resolution.{Resolution}

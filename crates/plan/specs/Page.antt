@@ -1,5 +1,5 @@
 -- A page as definitions speak of it: the fields of its headers, and its rows as a list. Assumes nothing.
-use Rattle.std.specs.Prelude.{ℕ, List, [], take, pos, None, Option}
+use Rattle.std.specs.Prelude.{List, [], take, pos, None}
 use Rattle.plan.specs.declared.lawful.Plan.{Plan}
 use Rattle.plan.specs.declared.layout.Row.{Row}
 use Rattle.plan.specs.declared.page.PageHeader.{PageHeader}

@@ -1,12 +1,12 @@
 -- Sources of one meaning: what is looked up in them is the same.
 -- Assumes nothing.
-use Rattle.std.proofs.Common.{◌≡◌, ℕ, ◌+◌, ◌-◌, Bool, true, false, cond, ◌&&◌, ltb, leb, sym, refl, ap, ◌∙◌, ap₂}
+use Rattle.std.proofs.Common.{◌≡◌, ℕ, ◌-◌, Bool, true, false, cond, ◌&&◌, ltb, leb, refl, ap, ap₂}
 use Rattle.std.proofs.lemmas.Bool.{ltb-true, and_parts}
 use Rattle.raster.specs.Meanings.{Meaning, OneMeaning, is_place, found, looked}
 use Rattle.raster.specs.Touches.{looked_from, joined, touch_at, within}
 use Rattle.raster.specs.declared.covers.Cover.{Cover}
 use Rattle.raster.specs.declared.sources.Look.{Look}
-use Rattle.raster.specs.declared.sources.Look.TheVariants.{Outside, Missing, Found}
+use Rattle.raster.specs.declared.sources.Look.TheVariants.{Outside}
 use Rattle.raster.specs.declared.touches.Placement.{Placement}
 use Rattle.raster.specs.declared.touches.Touch.TheVariants.{Bare}
 

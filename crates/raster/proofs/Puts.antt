@@ -1,12 +1,10 @@
 -- Bytes that are put into a buffer from a place on.
 -- Assumes nothing.
-use Rattle.std.proofs.Common.{◌≡◌, ℕ, ◌+◌, ◌-◌, ◌<◌, ◌≤◌, true, false, cond, List, [], ◌++◌, length, take, drop, Ok, Err, Result, sym, ap, ◌∙◌, ap₂, append_assoc, add-zero, add_assoc, arith, length-append, length-drop, take-append-drop, drop-drop}
+use Rattle.std.proofs.Common.{◌≡◌, ℕ, ◌+◌, ◌≤◌, List, [], ◌++◌, length, take, drop, Ok, sym, ap, ◌∙◌, ap₂, append_assoc, add-zero, add_assoc, arith, length-append, length-drop, take-append-drop, drop-drop}
 use borrow.Rule.Slice.PartMut.{put_mid}
 use Rattle.std.proofs.lemmas.List.{take_at, drop_at, length-take-le}
-use Rattle.std.proofs.lemmas.Bool.{le-leb, lt-leb, cond-true, cond-false}
+use Rattle.std.proofs.lemmas.Bool.{le-leb, cond-true}
 use Rattle.raster.specs.Shown.{put, room, put_answer, put_buffer}
-use Rattle.raster.specs.declared.shortages.Shortage.{Shortage}
-use Rattle.raster.specs.declared.shortages.Shortage.TheVariants.{Buffer, Samples}
 
 -- where there is room, the bytes are put
 pub put-answer : (buffer bytes : List ℕ) (at : ℕ) → at + length bytes ≤ length buffer → Ok (at + length bytes) ≡ put_answer buffer at bytes

@@ -2,7 +2,7 @@
 -- Assumes nothing.
 use Rattle.std.specs.Prelude.{ℕ, ◌+◌, ◌<◌, Bool, cond, List, [], ◌∷◌, ◌++◌, length, take, drop, Ok, Err, Result, nat_le}
 use Rattle.raster.specs.declared.shortages.Shortage.{Shortage}
-use Rattle.raster.specs.declared.shortages.Shortage.TheVariants.{Buffer, Samples}
+use Rattle.raster.specs.declared.shortages.Shortage.TheVariants.{Buffer}
 
 -- each number of a list is a byte
 abbrev pub AllBytes : List ℕ → Type 0

@@ -1,5 +1,7 @@
 // Colours and how they are blended and shown, sources of samples of which some are not there yet, and the touch of a
 // layout object at a page position.
+#![tactic(auto)]
+
 mod arrivals;
 mod colours;
 mod covers;

@@ -1,26 +1,22 @@
 -- The laws of every read. Assumes nothing.
-use Rattle.std.proofs.Common.{◌≡◌, ℕ, ◌+◌, ◌<◌, Bool, true, false, cond, not, eqb, List, [], ◌∷◌, length, Some, None, Ok, Err, Option, Result, sym, refl, ap, ◌∙◌, arith, eqb-true}
+use Rattle.std.proofs.Common.{◌≡◌, ℕ, ◌+◌, ◌<◌, Bool, true, false, not, eqb, List, length, Some, None, Ok, Err, Option, Result, sym, refl, ap, ◌∙◌, arith, eqb-true}
 use Rattle.boxes.proofs.Frames.{judged-ok}
 use Rattle.boxes.specs.Table.{table, same_kind}
 use Rattle.boxes.specs.Tests.{judged}
 use Rattle.boxes.specs.declared.fault.Fault.{Fault}
 use Rattle.boxes.specs.declared.reason.Reason.{Reason}
-use Rattle.boxes.specs.declared.reason.Reason.TheVariants.{Misplaced, Miscounted}
-use Rattle.boxes.specs.declared.table.Kind.{Kind}
 use Rattle.boxes.specs.declared.table.Kind.TheVariants as kinds
 use Rattle.boxes.specs.declared.table.Place.{Place}
 use Rattle.boxes.specs.declared.table.Place.TheVariants as places
 use Rattle.plan.specs.Headers.{layout_head_of, object_head_of, object_header_tests, page_head_of, page_header_tests, resolution_of, resolution_tests}
 use Rattle.plan.specs.declared.headers.PageHead.{PageHead}
-use Rattle.plan.specs.declared.layout.Row.{Row}
-use Rattle.reader.proofs.Offsets.{Between, FaultsBetween, Bounded, faults_cond, faults_located, faults-superbox, faults_then, faults-walked}
+use Rattle.reader.proofs.Offsets.{FaultsBetween, Bounded, faults_cond, faults_located, faults-superbox, faults_then, faults-walked}
 use Rattle.reader.specs.Laws.{FaultsLieInTheFile, RowsAreCounted}
-use Rattle.reader.specs.Objects.{LayoutState, head_tests, layout_rules, layout_state, nothing_held, object_rules, with_head}
+use Rattle.reader.specs.Objects.{head_tests, layout_rules, layout_state, nothing_held, object_rules, with_head}
 use Rattle.reader.specs.Pages.{FileState, PageState, file_rules, file_state, miscounted, new_page, page_rules, page_state, resolution_rules}
-use Rattle.reader.specs.Reading.{file_page, found_page, page_at}
-use Rattle.reader.specs.Walk.{Rules, lacking, located, superbox, then, walked, end_tests}
-use Rattle.reader.specs.declared.read.Refusal.{Refusal}
-use Rattle.reader.specs.declared.read.Refusal.TheVariants.{Faulty, NoSuchPage}
+use Rattle.reader.specs.Reading.{file_page, found_page}
+use Rattle.reader.specs.Walk.{lacking, located, superbox, then, walked, end_tests}
+use Rattle.reader.specs.declared.read.Refusal.TheVariants.{Faulty}
 
 -- a box that has contents or not begins before it ends
 header_first : (at body : ℕ) (bs : List ℕ) → at < body → at < body + length bs

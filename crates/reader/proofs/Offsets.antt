@@ -1,15 +1,14 @@
 -- Where a fault's offset lies. Assumes nothing.
-use Rattle.std.proofs.Common.{◌≡◌, ℕ, zero, suc, ◌+◌, ◌-◌, ◌<◌, ◌≤◌, Bool, true, false, cond, List, [], ◌∷◌, length, take, drop, Some, None, Ok, Err, Option, Result, sym, refl, ap, ◌∙◌, arith, length-drop, length-take}
+use Rattle.std.proofs.Common.{◌≡◌, ℕ, zero, suc, ◌+◌, ◌-◌, ◌<◌, ◌≤◌, Bool, true, false, cond, List, [], ◌∷◌, length, drop, Some, None, Ok, Err, Option, Result, refl, arith, length-drop, length-take}
 use Rattle.boxes.proofs.Frames.{framed-within}
 use Rattle.boxes.specs.Frame.{framed, Within}
-use Rattle.boxes.specs.Table.{same_place, entry_of, place_tests, same_kind}
-use Rattle.boxes.specs.Tests.{Test, judged}
+use Rattle.boxes.specs.Table.{same_place, entry_of, place_tests}
+use Rattle.boxes.specs.Tests.{judged}
 use Rattle.boxes.specs.declared.fault.Fault.{Fault}
 use Rattle.boxes.specs.declared.frame.Frame.{Frame}
 use Rattle.boxes.specs.declared.reason.Reason.{Reason}
 use Rattle.boxes.specs.declared.table.Entry.{Entry}
 use Rattle.boxes.specs.declared.table.Kind.{Kind}
-use Rattle.boxes.specs.declared.table.Kind.TheVariants as kinds
 use Rattle.boxes.specs.declared.table.Place.{Place}
 use Rattle.boxes.specs.declared.table.Place.TheVariants as places
 use Rattle.reader.proofs.Walks.{met-within}

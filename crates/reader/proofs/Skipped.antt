@@ -1,22 +1,19 @@
 -- A skipped box after the end of a file. Assumes nothing.
-use Rattle.std.proofs.Common.{◌≡◌, ℕ, zero, suc, ◌+◌, ◌-◌, ◌<◌, ◌≤◌, Bool, true, false, not, ◌&&◌, eqb, List, [], ◌∷◌, ◌++◌, length, take, drop, Some, None, Ok, Err, Option, Result, sym, refl, ap, ◌∙◌, arith, length-append, length-drop}
+use Rattle.std.proofs.Common.{◌≡◌, ℕ, zero, suc, ◌+◌, ◌-◌, ◌<◌, ◌≤◌, Bool, true, false, not, ◌&&◌, eqb, List, [], ◌∷◌, ◌++◌, length, take, drop, Some, None, Ok, Err, Option, Result, sym, refl, ap, ◌∙◌, arith, length-drop}
 use Rattle.std.proofs.lemmas.List.{drop_all, take-append-le, drop-append-le}
 use Rattle.boxes.proofs.Frames.{framed-append, framed-within, judged-ok}
 use Rattle.boxes.specs.Frame.{framed, frame_tests, frame_made, type_code, header_size, short_length, box_size}
-use Rattle.boxes.specs.Table.{entry_of, same_place}
+use Rattle.boxes.specs.Table.{entry_of}
 use Rattle.boxes.specs.declared.fault.Fault.{Fault}
 use Rattle.boxes.specs.declared.frame.Frame.{Frame}
 use Rattle.boxes.specs.declared.reason.Reason.{Reason}
 use Rattle.boxes.specs.declared.table.Entry.{Entry}
-use Rattle.boxes.specs.declared.table.Place.TheVariants as places
-use Rattle.plan.specs.Page.{Page}
 use Rattle.reader.proofs.Granted.{then_ok}
-use Rattle.reader.proofs.Walks.{enough, met-within, walk-empty, walk-on}
+use Rattle.reader.proofs.Walks.{met-within, walk-empty, walk-on}
 use Rattle.reader.specs.Laws.{say_their_length, SkippedBox, SkippedBoxesChangeNothing}
 use Rattle.reader.specs.Pages.{FileState, file_rules, file_state}
 use Rattle.reader.specs.Reading.{file_page, page_at}
-use Rattle.reader.specs.Walk.{Rules, contents_of, framed_box, listed, met, sized, then, walked}
-use Rattle.reader.specs.declared.read.Refusal.TheVariants.{Faulty}
+use Rattle.reader.specs.Walk.{Rules, contents_of, framed_box, listed, met, sized, walked}
 
 -- a box's contents are the same in longer bytes
 contents_append : (f : Frame) (xs ys : List ℕ) → f.header ≤ f.size → f.size ≤ length xs → contents_of f (xs ++ ys) ≡ contents_of f xs

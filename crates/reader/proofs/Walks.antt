@@ -1,5 +1,5 @@
 -- How a walk goes on from box to box. Assumes nothing.
-use Rattle.std.proofs.Common.{◌≡◌, ℕ, zero, suc, ◌+◌, ◌<◌, ◌≤◌, Bool, true, false, ◌||◌, List, [], ◌∷◌, length, get_or, drop, Ok, Err, Option, Result, sym, refl, ap, ◌∙◌, add-one, arith, length-drop, drop-cons}
+use Rattle.std.proofs.Common.{◌≡◌, ℕ, zero, suc, ◌+◌, ◌<◌, ◌≤◌, Bool, false, ◌||◌, List, [], ◌∷◌, length, get_or, drop, Ok, Err, Result, sym, refl, ap, ◌∙◌, add-one, arith, length-drop, drop-cons}
 use Rattle.boxes.proofs.Frames.{framed-within}
 use Rattle.boxes.specs.Frame.{framed}
 use Rattle.boxes.specs.Table.{same_place, entry_of}

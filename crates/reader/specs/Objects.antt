@@ -1,5 +1,5 @@
 -- Objects, and layout objects that hold them. Assumes nothing.
-use Rattle.std.specs.Prelude.{ℕ, Bool, true, false, cond, not, ◌&&◌, eqb, List, [], ◌∷◌, ◌++◌, is_some, Some, None, Ok, Err, Option, Result}
+use Rattle.std.specs.Prelude.{ℕ, cond, not, ◌&&◌, List, [], ◌∷◌, ◌++◌, is_some, Some, None, Ok, Option, Result}
 use Rattle.boxes.specs.Table.{same_kind}
 use Rattle.boxes.specs.Tests.{Test}
 use Rattle.boxes.specs.declared.fault.Fault.{Fault}

@@ -1,5 +1,5 @@
 -- Resolutions, pages, and the file that holds them. Assumes nothing.
-use Rattle.std.specs.Prelude.{ℕ, zero, suc, Bool, true, false, cond, not, ◌&&◌, List, [], ◌∷◌, ◌++◌, length, Some, None, Ok, Err, Option, Result, ◌==◌, nat_lt}
+use Rattle.std.specs.Prelude.{ℕ, zero, suc, Bool, true, false, cond, not, ◌&&◌, List, [], ◌∷◌, ◌++◌, length, Some, None, Ok, Option, Result, ◌==◌, nat_lt}
 use Rattle.boxes.specs.Table.{same_kind}
 use Rattle.boxes.specs.Tests.{Test}
 use Rattle.boxes.specs.declared.fault.Fault.{Fault}

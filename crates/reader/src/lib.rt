@@ -1,4 +1,6 @@
 // The plan of a page, read from the bytes of a JPM file.
+#![tactic(auto)]
+
 mod container;
 mod drafts;
 mod file;

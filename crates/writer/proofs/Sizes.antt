@@ -1,5 +1,5 @@
 -- How many bytes the written form of a page has. Assumes nothing.
-use Rattle.std.proofs.Common.{◌≡◌, ℕ, ◌++◌, length, arith, length-append}
+use Rattle.std.proofs.Common.{◌≡◌, ◌++◌, length, arith, length-append}
 use Rattle.std.specs.List.{flat_map}
 use Rattle.plan.specs.Page.{Page}
 use Rattle.writer.specs.Written.{collection_bytes, res, lobj, written, page_size}

@@ -1,5 +1,5 @@
 -- The bytes of the fields of a box. Assumes nothing.
-use Rattle.std.specs.Prelude.{ℕ, List, [], ◌∷◌, ◌++◌}
+use Rattle.std.specs.Prelude.{ℕ, List}
 use Rattle.std.specs.List.{flat_map}
 use Rattle.boxes.specs.Field.{digits}
 use Rattle.writer.specs.declared.fields.Field.{Field}

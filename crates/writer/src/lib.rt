@@ -1,4 +1,6 @@
 // A page's plan, written as the bytes of one page box.
+#![tactic(auto)]
+
 mod buffer;
 mod fields;
 mod headers;

@@ -1,4 +1,4 @@
-use Rattle.std.proofs.Common.{◌≡◌, ◌≤◌, Some, None, sym, refl, ap, ◌∙◌, ap₂, arith}
+use Rattle.std.proofs.Common.{◌≡◌, ◌≤◌, None, sym, refl, ap, ◌∙◌, ap₂, arith}
 use Rattle.raster.specs.Touches.{touch_at}
 use Rattle.cells.specs.Gathers.{or_else, gathered_one, first}
 use Rattle.cells.specs.Passes.{out_of_turn, missing}

@@ -1,4 +1,4 @@
-use Rattle.std.proofs.Common.{ℕ, ◌≤◌, set, sym, ap, ◌∙◌, arith}
+use Rattle.std.proofs.Common.{set, sym, ap, ◌∙◌, arith}
 use Rattle.raster.specs.Touches.{touch_at}
 use Rattle.cells.specs.Gathers.{given}
 use Rattle.cells.specs.Passes.{at_level, above_level, laid_cell}

@@ -1,5 +1,5 @@
-use Rattle.std.proofs.Common.{◌≡◌, ℕ, ◌≤◌, cond, [], sym, refl, ap, ◌∙◌, arith}
-use Rattle.raster.specs.Shown.{put_buffer, room}
+use Rattle.std.proofs.Common.{[], sym, ap, ◌∙◌, arith}
+use Rattle.raster.specs.Shown.{put_buffer}
 use Rattle.cells.specs.Gathers.{given}
 use Rattle.cells.specs.Passes.{at_level, shown_cell}
 use Rattle.cells.specs.Shows.{place_after}

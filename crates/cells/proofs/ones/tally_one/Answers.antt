@@ -1,4 +1,4 @@
-use Rattle.std.proofs.Common.{ℕ, sym, ap, ◌∙◌}
+use Rattle.std.proofs.Common.{sym, ap, ◌∙◌}
 use Rattle.cells.specs.Gathers.{given}
 use Rattle.cells.specs.Passes.{at_level, level_of}
 use Rattle.cells.proofs.ones.tally_one.Goals as goal

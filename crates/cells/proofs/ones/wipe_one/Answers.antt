@@ -1,4 +1,4 @@
-use Rattle.std.proofs.Common.{ℕ, ◌<◌, set, sym, ap, ◌∙◌, arith}
+use Rattle.std.proofs.Common.{set, sym, ap, ◌∙◌, arith}
 use Rattle.cells.specs.Gathers.{given}
 use Rattle.cells.specs.Passes.{level_of, fresh}
 use Rattle.cells.proofs.Singles.{changed-some, changed-none}

@@ -1,4 +1,4 @@
-use Rattle.std.proofs.Common.{◌≡◌, ◌+◌, ◌<◌, ◌≤◌, length, ap, arith}
+use Rattle.std.proofs.Common.{◌≡◌, ◌<◌, ◌≤◌, length, ap, arith}
 use Rattle.cells.proofs.Places.{Held, granted-from}
 use Rattle.cells.proofs.Passing.{sums_none, sums_same, sums-row, sums-whole}
 use Rattle.cells.proofs.Showing.{writes-none, writes-next, writes-row, writes-whole, whole-window}

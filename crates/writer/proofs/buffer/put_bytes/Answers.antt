@@ -1,4 +1,4 @@
-use Rattle.std.proofs.Common.{◌≡◌, arith}
+use Rattle.std.proofs.Common.{arith}
 use Rattle.writer.proofs.Puts.{copied}
 use Rattle.writer.proofs.buffer.put_bytes.Goals as goal
 

@@ -1,4 +1,4 @@
-use Rattle.std.proofs.Common.{◌≡◌, ℕ, ◌+◌, List, length, ap, ◌∙◌, arith}
+use Rattle.std.proofs.Common.{ap, ◌∙◌, arith}
 use Rattle.boxes.specs.Codes.{phdr_code}
 use Rattle.writer.specs.Puts.{put}
 use Rattle.writer.specs.Written.{phdr_contents, collection_bytes}

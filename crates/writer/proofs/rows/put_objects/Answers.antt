@@ -1,9 +1,7 @@
 -- A mask and an image, one after the other.
-use Rattle.std.proofs.Common.{◌≡◌, ℕ, ◌+◌, ◌≤◌, List, length, sym, ap, subst, arith}
+use Rattle.std.proofs.Common.{arith}
 use Rattle.plan.specs.declared.headers.ObjectType.TheVariants as types
-use Rattle.plan.specs.declared.layout.Objects.TheVariants.{Separate}
-use Rattle.writer.specs.Puts.{put}
-use Rattle.writer.specs.Written.{objc, objcs}
+use Rattle.writer.specs.Written.{objc}
 use Rattle.writer.proofs.Puts.{put_two}
 use Rattle.writer.proofs.rows.put_objects.Goals as goal
 

@@ -1,5 +1,5 @@
 -- The box's header, the layout object header, and the objects, one after the other.
-use Rattle.std.proofs.Common.{◌≡◌, ◌++◌, length, ap, ◌∙◌, arith}
+use Rattle.std.proofs.Common.{◌++◌, ap, ◌∙◌, arith}
 use Rattle.boxes.specs.Codes.{lobj_code}
 use Rattle.boxes.specs.Field.{digits}
 use Rattle.writer.specs.Puts.{put}

@@ -1,4 +1,4 @@
-use Rattle.std.proofs.Common.{◌<◌, length, arith}
+use Rattle.std.proofs.Common.{arith}
 use Rattle.std.proofs.lemmas.List.{get_or-take}
 use Rattle.plan.specs.Page.{page_of}
 use Rattle.plan.proofs.Rows.{length-used}

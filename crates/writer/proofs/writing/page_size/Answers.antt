@@ -1,4 +1,4 @@
-use Rattle.std.proofs.Common.{sym, ◌∙◌, arith}
+use Rattle.std.proofs.Common.{arith}
 use Rattle.plan.specs.Page.{page_of}
 use Rattle.writer.proofs.Sizes.{written-length}
 use Rattle.writer.proofs.writing.page_size.Goals as goal

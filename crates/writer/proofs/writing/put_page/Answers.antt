@@ -1,12 +1,12 @@
 -- The box's header, the page header, the resolution and the layout objects, one after the other.
-use Rattle.std.proofs.Common.{◌≡◌, ℕ, ◌+◌, List, ◌++◌, length, take, sym, ap, ◌∙◌, arith}
+use Rattle.std.proofs.Common.{◌≡◌, ◌++◌, take, ap, ◌∙◌, arith}
 use Rattle.std.specs.List.{flat_map}
 use Rattle.boxes.specs.Codes.{page_code}
 use Rattle.boxes.specs.Field.{digits}
 use Rattle.plan.proofs.Rows.{length-used}
 use Rattle.plan.specs.Page.{page_of}
 use Rattle.writer.specs.Puts.{put}
-use Rattle.writer.specs.Written.{box, phdr, res, lobj, page_contents, written}
+use Rattle.writer.specs.Written.{phdr, res, lobj, page_contents, written}
 use Rattle.writer.proofs.Puts.{put_four, put_front, boxed}
 use Rattle.writer.proofs.Sizes.{written-length}
 use Rattle.writer.proofs.writing.put_page.Goals as goal

@@ -1,4 +1,4 @@
-use Rattle.std.proofs.Common.{◌≡◌, ◌+◌, eqb, sym, refl, ap, ◌∙◌, eq-eqb}
+use Rattle.std.proofs.Common.{◌+◌, eqb, refl, ap, ◌∙◌, eq-eqb}
 use Rattle.canvas.specs.Canvases.{view_of}
 use Rattle.canvas.specs.Views.{standing}
 use Rattle.canvas.proofs.Keeping.{promise}

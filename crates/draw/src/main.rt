@@ -34,21 +34,18 @@ fn read_session(rt: &HostRuntime) -> anyhow::Result<String> {
 }
 
 // The error of a line, with its number.
-fn at_line(rt: &HostRuntime, number: u64, error: anyhow::Error) -> anyhow::Error {
-    match format!(in rt.alloc(); "line {number}: {error}") {
-        Ok(text) => text.into(),
-        Err(_) => error,
-    }
+fn at_line(number: u64, error: anyhow::Error) -> anyhow::Error {
+    anyhow!("line {number}: {error}")
 }
 
 fn run(rt: &HostRuntime) -> anyhow::Result<()> {
     let text = read_session(rt)?;
     let Session { lines, fault } = read_lines(rt.alloc(), text.as_str())?;
     if let Err((number, error)) = play(rt, lines.as_slice()) {
-        return Err(at_line(rt, number, error));
+        return Err(at_line(number, error));
     }
     match fault {
-        Some((number, error)) => Err(at_line(rt, number, error)),
+        Some((number, error)) => Err(at_line(number, error)),
         None => Ok(()),
     }
 }

@@ -57,12 +57,14 @@ def renamings():
     new = {}
     for path in sources("specs/**/*.antt") + sources("proofs/**/*.antt") + sources("src/**/*.rt"):
         for token in TOKEN.findall(path.read_text(encoding="utf-8")):
-            if token not in names and snake(token) != token:
+            if snake(token) != token and not ("-" in token and token in names):
                 new[token] = snake(token)
     for name in names:
         if "-" in name:
             new[name] = dashed(snake(name), definitions)
-    return {old: to for old, to in (new | LEMMAS).items() if old != to}
+    found = {old: to for old, to in new.items() if old != to}
+    # a second run finds nothing to do
+    return found | LEMMAS if found else found
 
 
 def respelled(text, new):

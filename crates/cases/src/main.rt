@@ -1,5 +1,7 @@
 // Reads small files that are given as text, and prints what reading each of them answers. A line is a name, the number of a page, and the
 // bytes of the file as `hex:` with two digits each.
+#![tactic(auto)]
+
 use anyhow::anyhow;
 use plan::lawful::Plan;
 use reader::read::{Refusal, read};

@@ -1,4 +1,6 @@
 // Plays a drawing session: one line of a text file is one call, and one line is printed for each.
+#![tactic(auto)]
+
 mod answers;
 mod boards;
 mod commands;

@@ -1,4 +1,6 @@
 // Prints the plan of a page of a JPM file, writes it back, and says whether the bytes are the same.
+#![tactic(auto)]
+
 mod show;
 mod written;
 

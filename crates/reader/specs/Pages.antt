@@ -57,11 +57,11 @@ abbrev pub resolution_into : PageState → ℕ → ℕ → List ℕ → Result P
 resolution_into s at body bs = then (superbox resolution_rules at body bs None) (λ r. Ok (page_state s.head r s.rows))
 
 -- the row of a layout object after the layout objects of some rows
-abbrev pub row_read_lem : List Row → ℕ → ℕ → List ℕ → Result (Option Row) Fault
-row_read_lem earlier at body bs = then (superbox layout_rules at body bs (layout_state earlier None nothing_held)) (λ l. Ok (row_of l.head l.held))
+abbrev pub row_read : List Row → ℕ → ℕ → List ℕ → Result (Option Row) Fault
+row_read earlier at body bs = then (superbox layout_rules at body bs (layout_state earlier None nothing_held)) (λ l. Ok (row_of l.head l.held))
 
 abbrev pub layout_into : PageState → ℕ → ℕ → List ℕ → Result PageState Fault
-layout_into s at body bs = then (row_read_lem s.rows at body bs) (λ row. Ok (with_row s row))
+layout_into s at body bs = then (row_read s.rows at body bs) (λ row. Ok (with_row s row))
 
 abbrev pub page_taken : PageState → Kind → ℕ → ℕ → List ℕ → Result PageState Fault
 page_taken s k at body bs =

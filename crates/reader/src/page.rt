@@ -1,7 +1,7 @@
 // A page: a superbox with a phdr box, a res box and up to 64 layout objects.
 ghost use Rattle.std.specs.Prelude.{◌≡◌, ◌+◌, ◌^◌, ◌<◌, ◌≤◌, cond, length, take, is_some};
 ghost use Rattle.plan.specs.Page.{page_of};
-ghost use Rattle.reader.specs.Pages.{PageState, page_state, new_page, page_rules, page_from, pushed, filled, row_read_lem, header_into, resolution_into, layout_into};
+ghost use Rattle.reader.specs.Pages.{PageState, page_state, new_page, page_rules, page_from, pushed, filled, row_read, header_into, resolution_into, layout_into};
 ghost use Rattle.reader.specs.Walk.{outcome};
 
 use crate::container::Container;
@@ -27,7 +27,7 @@ fn first_rows(rows: &[Row; 64], used: usize) -> &[Row]
 // The row of a layout object after those of the rows `earlier`.
 fn read_row(earlier: &[Row], at: usize, body: usize, contents: &[u8]) -> Result<Option<Row>, Fault>
     requires { body + length contents.now < 2 ^ 64 }
-    ensures value { result ≡ row_read_lem earlier.now at body contents.now }
+    ensures value { result ≡ row_read earlier.now at body contents.now }
 {
     let mut draft = LayoutDraft {
         earlier,

@@ -1,11 +1,10 @@
 -- A box in the written form, met by the walk of a container. Assumes nothing.
-use Rattle.std.proofs.Common.{◌≡◌, ℕ, ◌+◌, ◌-◌, ◌<◌, ◌≤◌, Bool, true, false, cond, not, ◌&&◌, eqb, ltb, List, [], ◌∷◌, ◌++◌, length, take, drop, Some, None, Ok, Err, Option, Result, sym, refl, ap, ◌∙◌, ap₂, arith, length-append}
+use Rattle.std.proofs.Common.{◌≡◌, ℕ, ◌+◌, ◌-◌, ◌<◌, ◌≤◌, Bool, true, false, cond, not, ◌&&◌, eqb, ltb, List, [], ◌∷◌, ◌++◌, length, drop, Some, None, Ok, Result, sym, refl, ap, ◌∙◌, ap₂, arith, length-append}
 use Rattle.std.proofs.lemmas.List.{append-nil, take_at, drop_at}
 use Rattle.std.proofs.lemmas.Bool.{le-ltb, ne_eqb}
-use Rattle.boxes.specs.Frame.{framed, frame_made, length_tests, long_length, short_length, type_code}
+use Rattle.boxes.specs.Frame.{framed, frame_made, length_tests, long_length}
 use Rattle.boxes.specs.Table.{entry_of, place_tests, same_place}
 use Rattle.boxes.specs.Tests.{Test, or_else, judged, first_failure}
-use Rattle.boxes.specs.declared.fault.Fault.{Fault}
 use Rattle.boxes.specs.declared.frame.Frame.{Frame}
 use Rattle.boxes.specs.declared.reason.Reason.{Reason}
 use Rattle.boxes.specs.declared.reason.Reason.TheVariants.{Truncated, BadLength}

@@ -1,5 +1,5 @@
 -- A number that is written in bytes and read again. Assumes nothing.
-use Rattle.std.proofs.Common.{◌≡◌, ℕ, zero, suc, ◌+◌, ◌*◌, ◌/◌, ◌%◌, ◌^◌, ◌<◌, List, [], ◌∷◌, ◌++◌, length, get_or, ℤ, sym, refl, ap, ◌∙◌, ap₂, append_assoc, mod-eq_of_lt, mul_comm, pow-suc, div-one, arith, lit<, w8, SFits, to_z, of_z}
+use Rattle.std.proofs.Common.{◌≡◌, ℕ, zero, suc, ◌+◌, ◌*◌, ◌/◌, ◌%◌, ◌^◌, List, [], ◌∷◌, ◌++◌, length, get_or, ℤ, sym, refl, ap, ◌∙◌, ap₂, append_assoc, mod-eq_of_lt, mul_comm, pow-suc, div-one, lit<, w8, SFits, to_z, of_z}
 use native.Mathlib.Nat.{mod-one, one-le-pow}
 use lib.Arith.{mod-mul}
 use mir.Facts.{Fits-of_z}

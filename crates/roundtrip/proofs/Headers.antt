@@ -1,9 +1,9 @@
 -- Each header, read from the contents that are written for it. Assumes nothing.
-use Rattle.std.proofs.Common.{◌≡◌, ℕ, ◌^◌, ◌<◌, Bool, true, false, not, ◌||◌, eqb, ltb, List, [], ◌∷◌, ◌++◌, Some, None, Option, sym, refl, ap, ◌∙◌, ap₂, lit<}
+use Rattle.std.proofs.Common.{◌≡◌, ℕ, Bool, true, false, not, ◌||◌, eqb, ltb, Some, None, Option, refl, ap, ◌∙◌, ap₂, lit<}
 use Rattle.boxes.specs.Field.{field, digits}
 use Rattle.boxes.specs.Tests.{unless, first_failure}
 use Rattle.boxes.specs.declared.reason.Reason.TheVariants.{IllegalValue}
-use Rattle.plan.specs.Headers.{page_head_of, page_header_tests, resolution_of, resolution_tests, layout_head_of, layout_header_tests, object_head_of, object_header_tests, type_number, type_of, style_of, style_number}
+use Rattle.plan.specs.Headers.{page_head_of, page_header_tests, resolution_of, resolution_tests, layout_head_of, object_head_of, object_header_tests, type_number, type_of, style_of, style_number}
 use Rattle.plan.specs.Laws.{sized_page, whole_resolution}
 use Rattle.plan.specs.declared.headers.LayoutHead.{LayoutHead}
 use Rattle.plan.specs.declared.headers.ObjectHead.{ObjectHead}

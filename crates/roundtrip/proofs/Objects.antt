@@ -1,15 +1,12 @@
 -- Objects, resolutions and layout objects in the written form, as they are read. Assumes nothing.
-use Rattle.std.proofs.Common.{◌≡◌, ℕ, ◌+◌, Bool, true, false, not, List, [], ◌∷◌, ◌++◌, length, Some, None, Ok, Err, Option, Result, sym, refl, ap, ◌∙◌, ap₂, lit<}
+use Rattle.std.proofs.Common.{◌≡◌, ℕ, ◌+◌, true, false, List, ◌++◌, length, Some, None, Ok, refl, ap, ◌∙◌, ap₂, lit<}
 use Rattle.boxes.specs.Codes.{resd_code, lhdr_code, objc_code, ohdr_code}
 use Rattle.boxes.specs.Tests.{unless, first_failure}
-use Rattle.boxes.specs.declared.fault.Fault.{Fault}
 use Rattle.boxes.specs.declared.reason.Reason.TheVariants.{IllegalValue, RepeatedIdentifier}
 use Rattle.boxes.specs.declared.table.Kind.TheVariants as kinds
 use Rattle.boxes.specs.declared.table.Place.TheVariants as places
-use Rattle.plan.specs.Headers.{layout_head_of, object_head_of, object_header_tests, resolution_of, resolution_tests, style_number}
+use Rattle.plan.specs.Headers.{object_head_of, object_header_tests, resolution_of, resolution_tests, style_number}
 use Rattle.plan.specs.Laws.{has_id, whole_resolution}
-use Rattle.plan.specs.declared.headers.LayoutHead.{LayoutHead}
-use Rattle.plan.specs.declared.headers.ObjectHead.{ObjectHead}
 use Rattle.plan.specs.declared.headers.ObjectType.{ObjectType}
 use Rattle.plan.specs.declared.headers.ObjectType.TheVariants as types
 use Rattle.plan.specs.declared.layout.Layout.{Layout}
@@ -18,10 +15,10 @@ use Rattle.plan.specs.declared.layout.Objects.{Objects}
 use Rattle.plan.specs.declared.layout.Objects.TheVariants.{Separate, Both, Image, Mask}
 use Rattle.plan.specs.declared.layout.Row.{Row}
 use Rattle.plan.specs.declared.page.Resolution.{Resolution}
-use Rattle.reader.specs.Objects.{object_rules, layout_rules, LayoutState, layout_state, layout_taken, with_head, with_object, head_tests, held_more, nothing_held, row_of}
-use Rattle.reader.specs.Pages.{resolution_rules, row_read_lem}
+use Rattle.reader.specs.Objects.{object_rules, layout_rules, LayoutState, layout_state, layout_taken, with_head, with_object, head_tests, nothing_held, row_of}
+use Rattle.reader.specs.Pages.{resolution_rules, row_read}
 use Rattle.reader.specs.Walk.{then, walked, end_tests, superbox}
-use Rattle.writer.specs.Written.{box, resd, resd_contents, lhdr, lhdr_contents, ohdr, ohdr_contents, objc, objcs}
+use Rattle.writer.specs.Written.{resd, resd_contents, lhdr, lhdr_contents, ohdr, ohdr_contents, objc, objcs}
 use Rattle.roundtrip.specs.Fits.{ResolutionFits, LayoutFits, ObjectFits, ObjectsFit}
 use Rattle.roundtrip.proofs.Boxes.{tested-passes, walk-box, walk-last, superbox_passes}
 use Rattle.roundtrip.proofs.Headers.{object_head, object-fields, object-passes, resolution-fields, resolution-passes, layout_head, style_for, layout-fields, style_passes}
@@ -89,11 +86,11 @@ module _ (earlier : List Row) (l : Layout) (f : LayoutFits l) (new : has_id l.lo
   bytes os = lhdr l (style_number os) ++ objcs os
 
   -- the row that it says
-  ends : (os : Objects) (t : LayoutState) (at body : ℕ) → walked layout_rules (length (bytes os)) body true (bytes os) (layout_state earlier None nothing_held) ≡ Ok t → first_failure (end_tests layout_rules t) ≡ None → row_of t.head t.held ≡ Some (row_with os) → row_read_lem earlier at body (bytes os) ≡ Ok (Some (row_with os))
+  ends : (os : Objects) (t : LayoutState) (at body : ℕ) → walked layout_rules (length (bytes os)) body true (bytes os) (layout_state earlier None nothing_held) ≡ Ok t → first_failure (end_tests layout_rules t) ≡ None → row_of t.head t.held ≡ Some (row_with os) → row_read earlier at body (bytes os) ≡ Ok (Some (row_with os))
   ends os t at body goes passes is =
       ap (λ q. then q (λ x. Ok (row_of x.head x.held))) (superbox_passes layout_rules at body (bytes os) (layout_state earlier None nothing_held) t goes passes) ∙ ap Ok is
 
-  pub row_read_lem : (os : Objects) → ObjectsFit os → (at body : ℕ) → row_read_lem earlier at body (lhdr l (style_number os) ++ objcs os) ≡ Ok (Some (row_with os))
+  pub row_read_lem : (os : Objects) → ObjectsFit os → (at body : ℕ) → row_read earlier at body (lhdr l (style_number os) ++ objcs os) ≡ Ok (Some (row_with os))
   row_read_lem (Separate mask image) k at body = ends (Separate mask image) _ at body (pair-walked (Separate mask image) mask image k.0 k.1 types.Mask types.Image body) refl refl
   row_read_lem (Both object) k at body = ends (Both object) _ at body (lone-walked (Both object) object k types.Both body) refl refl
   row_read_lem (Image object) k at body = ends (Image object) _ at body (lone-walked (Image object) object k types.Image body) refl refl

@@ -1,5 +1,5 @@
 -- A page in the written form, as it is read. Assumes nothing.
-use Rattle.std.proofs.Common.{◌≡◌, ℕ, ◌+◌, ◌*◌, ◌<◌, ◌≤◌, Bool, true, false, not, ◌&&◌, ◌||◌, eqb, leb, List, [], ◌∷◌, ◌++◌, length, Some, None, Ok, Err, Option, Result, sym, refl, ap, ◌∙◌, ap₂, append_assoc, arith, lit<, length-append}
+use Rattle.std.proofs.Common.{◌≡◌, ℕ, ◌+◌, ◌*◌, ◌<◌, ◌≤◌, true, false, not, ◌||◌, List, [], ◌∷◌, ◌++◌, length, Some, None, Ok, Option, sym, refl, ap, ◌∙◌, ap₂, append_assoc, arith, lit<, length-append}
 use Rattle.std.proofs.lemmas.List.{append-nil}
 use Rattle.std.proofs.lemmas.Bool.{and_parts, or_parts, or_from, not-true, eq-eqb, ne_eqb, eqb-false, lt-leb, le-ltb}
 use Rattle.std.specs.List.{flat_map}
@@ -8,7 +8,7 @@ use Rattle.boxes.specs.Tests.{unless, first_failure}
 use Rattle.boxes.specs.declared.reason.Reason.TheVariants.{Misplaced, TooManyObjects, Miscounted}
 use Rattle.boxes.specs.declared.table.Kind.TheVariants as kinds
 use Rattle.boxes.specs.declared.table.Place.TheVariants as places
-use Rattle.plan.specs.Headers.{page_head_of, page_header_tests, style_number}
+use Rattle.plan.specs.Headers.{page_header_tests, style_number}
 use Rattle.plan.specs.Laws.{named, has_id, distinct_ids, sized_page, whole_resolution}
 use Rattle.plan.specs.Page.{Page}
 use Rattle.plan.specs.declared.headers.PageHead.{PageHead}
@@ -20,10 +20,10 @@ use Rattle.plan.specs.declared.page.PageHeader.{PageHeader}
 use Rattle.plan.specs.declared.page.Resolution.{Resolution}
 use Rattle.reader.proofs.Ids.{pushed-new}
 use Rattle.reader.proofs.Walks.{walk-empty}
-use Rattle.reader.specs.Pages.{PageState, page_state, new_page, page_rules, page_taken, with_row, page_from, file_rules, file_state, file_taken, counted}
+use Rattle.reader.specs.Pages.{page_state, new_page, page_rules, page_taken, with_row, page_from, file_rules, file_state, file_taken, counted}
 use Rattle.reader.specs.Reading.{file_page, page_at}
 use Rattle.reader.specs.Walk.{then, walked, end_tests, superbox}
-use Rattle.writer.specs.Written.{box, collection_bytes, phdr, phdr_contents, res, resd, lhdr, objcs, lobj, page_contents, written}
+use Rattle.writer.specs.Written.{collection_bytes, phdr, phdr_contents, res, resd, lhdr, objcs, lobj, page_contents, written}
 use Rattle.roundtrip.specs.Fits.{InBytes, PageFits, RowFits, RowsFit}
 use Rattle.roundtrip.proofs.Boxes.{tested-passes, walk-box, walk-last, superbox_passes}
 use Rattle.roundtrip.proofs.Headers.{page-fields, page-passes}

@@ -1,10 +1,9 @@
 -- Two plans that say the same are equal: the places past the last row are blank, and what a ghost field says is said in one way. Assumes nothing.
-use Rattle.std.proofs.Common.{◌≡◌, ℕ, ◌-◌, ◌≤◌, List, [], ◌∷◌, ◌++◌, length, take, drop, replicate, Ok, Err, Result, sym, refl, ap, ◌∙◌, ap₂, arith, take-append-drop}
+use Rattle.std.proofs.Common.{◌≡◌, ◌-◌, ◌++◌, length, replicate, Ok, Result, sym, ap, ◌∙◌, ap₂, arith, take-append-drop}
 use denote.Struct.Record.{values_one}
 use Rattle.plan.specs.Laws.{blank_row}
 use Rattle.plan.specs.Page.{Page, page_of}
 use Rattle.plan.specs.declared.lawful.Plan.{Plan}
-use Rattle.plan.specs.declared.layout.Row.{Row}
 use Rattle.plan.specs.contracts.lawful.Plan as plans
 use Rattle.plan.specs.contracts.layout.Row as rows
 use Rattle.plan.specs.contracts.page.PageHeader as headers

@@ -1,4 +1,6 @@
 // A plan that is written and read back.
+#![tactic(auto)]
+
 pub mod bounds;
 #[cfg(test)]
 mod tests;

@@ -1,4 +1,5 @@
-// Functions with C's calling convention, for programs in C or Rust that link the library, and for the benchmarks.
+// Whether a page can be read, and whole sheets drawn, in functions on numbers and bytes alone: the crate linked_c exports them to
+// programs in C or Rust.
 #![tactic(auto)]
 
 mod sheets;
@@ -13,8 +14,7 @@ use reader::read::read;
 pub use sheets::{draw_grey, draw_paper, draw_tint};
 
 // 0 where the page with a number can be read from the bytes of a file, and otherwise the number of the refusal.
-#[unsafe(no_mangle)]
-pub extern "C" fn page_verdict(file: &[u8], number: u64) -> u8
+pub fn page_verdict(file: &[u8], number: u64) -> u8
     ensures value { result ≡ verdict (page_at number file.now) }
 {
     let mut plan = Plan::blank();

@@ -57,8 +57,7 @@ fn draw_sheet<C: Colour, M: Source<Sample = Cover>, I: Source<Sample = C>>(
 }
 
 // Draws the first `count` objects on white, each with byte covers and one grey; answers the finished cells.
-#[unsafe(no_mangle)]
-pub extern "C" fn draw_grey(
+pub fn draw_grey(
     file: &[u8],
     wide: u16,
     high: u16,
@@ -95,8 +94,7 @@ pub extern "C" fn draw_grey(
 }
 
 // Draws the first `count` objects on white, each with byte covers and tints of three bytes; answers the finished cells.
-#[unsafe(no_mangle)]
-pub extern "C" fn draw_tint(
+pub fn draw_tint(
     file: &[u8],
     wide: u16,
     high: u16,
@@ -133,8 +131,7 @@ pub extern "C" fn draw_tint(
 }
 
 // Draws the first `count` objects on blank paper, each with bit covers and ink; answers the finished cells.
-#[unsafe(no_mangle)]
-pub extern "C" fn draw_paper(
+pub fn draw_paper(
     file: &[u8],
     wide: u16,
     high: u16,

@@ -16,6 +16,8 @@ TOP = pathlib.Path(__file__).resolve().parent.parent
 LETTER = r"[\w'\-]"
 TOKEN = re.compile(r"(?<!" + LETTER + r")[a-z][\w'\-]*")
 STD_WORDS = {"length", "nth", "take", "drop", "and", "or", "not"}
+# fields of a record of specs/, and the lemma of that name
+FIELDS = {"reads-back": "reads_back", "writes-back": "writes_back"}
 # lemmas that would have the name of the definition that they speak of
 LEMMAS = {"row_read": "row_read_lem", "type-of": "type_of_lem", "whole-page": "whole_page_lem", "style-for": "style_for_lem"}
 
@@ -64,14 +66,14 @@ def renamings():
             new[name] = dashed(snake(name), definitions)
     found = {old: to for old, to in new.items() if old != to}
     # a second run finds nothing to do
-    return found | LEMMAS if found else found
+    return found | FIELDS | LEMMAS if found else found
 
 
 def respelled(text, new):
     def one(m):
         word = m.group(0)
         behind_a_dot = m.start() > 0 and text[m.start() - 1] == "."
-        if word in new and not ("-" in word and behind_a_dot):
+        if word in new and (word in FIELDS or not ("-" in word and behind_a_dot)):
             return new[word]
         return word
 

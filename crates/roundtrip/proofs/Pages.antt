@@ -129,9 +129,9 @@ module _ (p : Page) (f : PageFits p) (sized : sized_page p.header ≡ true) (who
   page-taken : (at body : ℕ) → file_taken (file_state (Some 0) None) kinds.Page at body (page_contents p) ≡ Ok (file_state None (Some p))
   page-taken at body = ap (λ q. then q (λ x. Ok (counted (Some 0) None (page_from x)))) (page-read at body)
 
-  pub reads-back : page_at 0 (written p) ≡ Ok p
+  pub reads_back : page_at 0 (written p) ≡ Ok p
   unfolding written
-  reads-back =
+  reads_back =
       let m : length (phdr_contents p.header count) ≤ 30 = phdr-size p.header count in
       let k = lobjs_size p.rows in
       let l = length-append (phdr p.header count) (res p.resolution ++ lobjs) in

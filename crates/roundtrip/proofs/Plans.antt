@@ -14,7 +14,7 @@ use Rattle.reader.specs.declared.read.Refusal.{Refusal}
 use Rattle.writer.specs.Written.{written}
 use Rattle.roundtrip.specs.Fits.{PageFits}
 use Rattle.roundtrip.specs.RoundTrip.{ReadsBack, WritesBack, OneForm, RoundTrip}
-use Rattle.roundtrip.proofs.Pages.{reads-back}
+use Rattle.roundtrip.proofs.Pages.{reads_back}
 
 ok_same : {a b : Page} → ◌≡◌ {A = Result Page Refusal} (Ok a) (Ok b) → a ≡ b
 ok_same e = cc
@@ -42,7 +42,7 @@ module _ (p : Plan) (fits : PageFits (page_of p)) where
   read_back : ReadsBack p
   read_back =
       let used = length-used p.rows p.count (omega (arith, p.few, p.places)) in
-      reads-back (page_of p) fits p.sized p.whole (omega (arith, p.few)) p.distinct
+      reads_back (page_of p) fits p.sized p.whole (omega (arith, p.few)) p.distinct
 
 module _ (p : Plan) (fits : PageFits (page_of p)) where
   write-back : WritesBack p
@@ -54,4 +54,4 @@ module _ (p : Plan) (fits : PageFits (page_of p)) where
   one_form q other same = same-plan q p (ok_same (sym (read_back q other) ∙ ap (page_at 0) same ∙ read_back p fits))
 
   pub round_trip : RoundTrip p
-  round_trip = record { reads-back = read_back p fits; writes-back = write-back; one_form = one_form }
+  round_trip = record { reads_back = read_back p fits; writes_back = write-back; one_form = one_form }

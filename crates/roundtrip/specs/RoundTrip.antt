@@ -21,8 +21,8 @@ OneForm p = (q : Plan) → PageFits (page_of q) → written (page_of q) ≡ writ
 
 -- the round trip
 pub record RoundTrip (p : Plan) : Type 0 where
-  pub reads-back : ReadsBack p
-  pub writes-back : WritesBack p
+  pub reads_back : ReadsBack p
+  pub writes_back : WritesBack p
   pub one_form : OneForm p
 
 -- the plan that is read back where there is room for the bytes; else the plan that there was

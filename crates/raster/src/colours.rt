@@ -21,7 +21,7 @@ pub trait Colour: Copy {
     // How many bytes each colour shows as.
     const BYTES: usize;
 
-    // The same number: no clause can name an associated constant, so this ties it to `size`.
+    // The same number: its clause ties the constant to `size`, by which the laws and the contracts speak of it.
     fn byte_count() -> usize
         ensures value { result ≡ size };
 

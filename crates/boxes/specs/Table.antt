@@ -4,8 +4,6 @@ use Rattle.boxes.specs.declared.reason.Reason.TheVariants.{Misplaced, TooManyObj
 use Rattle.boxes.specs.declared.table.Entry.{Entry}
 use Rattle.boxes.specs.declared.table.Kind.{Kind}
 use Rattle.boxes.specs.declared.table.Kind.TheVariants as kinds
-use Rattle.boxes.specs.declared.table.Most.{Most}
-use Rattle.boxes.specs.declared.table.Most.TheVariants.{Any, UpTo}
 use Rattle.boxes.specs.declared.table.Place.{Place}
 use Rattle.boxes.specs.declared.table.Place.TheVariants as places
 use Rattle.boxes.specs.Codes.{page_code, phdr_code, res_code, resd_code, lobj_code, lhdr_code, objc_code, ohdr_code}
@@ -31,20 +29,20 @@ abbrev pub same_place : Place → Place → Bool
 same_place p q = place_index p == place_index q
 
 -- a line of the table: code, kind, container, least and most, first
-abbrev line : ℕ → Kind → Place → ℕ → Most → Bool → Entry
+abbrev line : ℕ → Kind → Place → ℕ → Option ℕ → Bool → Entry
 line c k p l m f = record { code = c; kind = k; inside = p; least = l; most = m; first = f }
 
 -- the types, where each stands, and how often
 abbrev pub table : List Entry
 table =
-    line page_code kinds.Page places.File 0 Any false
-    ∷ line phdr_code kinds.PageHeader places.Page 1 (UpTo 1) true
-    ∷ line res_code kinds.Resolution places.Page 1 (UpTo 1) false
-    ∷ line resd_code kinds.DisplayResolution places.Resolution 1 (UpTo 1) false
-    ∷ line lobj_code kinds.LayoutObject places.Page 0 (UpTo 64) false
-    ∷ line lhdr_code kinds.LayoutHeader places.LayoutObject 1 (UpTo 1) true
-    ∷ line objc_code kinds.Object places.LayoutObject 1 (UpTo 2) false
-    ∷ line ohdr_code kinds.ObjectHeader places.Object 1 (UpTo 1) true
+    line page_code kinds.Page places.File 0 None false
+    ∷ line phdr_code kinds.PageHeader places.Page 1 (Some 1) true
+    ∷ line res_code kinds.Resolution places.Page 1 (Some 1) false
+    ∷ line resd_code kinds.DisplayResolution places.Resolution 1 (Some 1) false
+    ∷ line lobj_code kinds.LayoutObject places.Page 0 (Some 64) false
+    ∷ line lhdr_code kinds.LayoutHeader places.LayoutObject 1 (Some 1) true
+    ∷ line objc_code kinds.Object places.LayoutObject 1 (Some 2) false
+    ∷ line ohdr_code kinds.ObjectHeader places.Object 1 (Some 1) true
     ∷ []
 
 -- the first of some lines that has a code
@@ -57,9 +55,9 @@ abbrev pub entry_of : ℕ → Option Entry
 entry_of c = looked_up c table
 
 -- n boxes of a type are as many as there may be
-abbrev pub reached : Most → ℕ → Bool
-reached Any n = false
-reached (UpTo m) n = nat_le m n
+abbrev pub reached : Option ℕ → ℕ → Bool
+reached None n = false
+reached (Some m) n = nat_le m n
 
 -- the types by a number each, to compare them
 abbrev pub kind_index : Kind → ℕ

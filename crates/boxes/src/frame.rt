@@ -1,6 +1,7 @@
 // One box header: the length, the type, and whether the box lies within its container.
-ghost use Rattle.std.specs.Prelude.{◌≡◌, not, [], ◌∷◌, length, IfOk, nat_lt};
-ghost use Rattle.boxes.specs.Frame.{Within, framed, frame_made, length_tests, long_length};
+ghost use Rattle.std.specs.Prelude.{◌≡◌, ◌+◌, not, [], ◌∷◌, length, IfOk, nat_lt};
+ghost use Rattle.boxes.specs.Field.{field};
+ghost use Rattle.boxes.specs.Frame.{Within, framed, framed_by, frame_made, length_tests};
 ghost use Rattle.boxes.specs.Tests.{judged};
 
 use crate::field::read64;
@@ -16,18 +17,27 @@ pub struct Frame {
 
 // The box that stands at the front of what is left of a container, or why there is none.
 // `top` says that the container is the file, where a length of 0 means up to the file's end.
-pub fn read_frame(rest: &[u8], top: bool) -> Result<Frame, Reason>
-    ensures answer { result ≡ framed top rest.now }
-    ensures within { IfOk result (λ f. Within f (length rest.now)) }
+pub fn read_frame(left: &[u8], top: bool) -> Result<Frame, Reason>
+    ensures answer { result ≡ framed top left.now }
+    ensures within { IfOk result (λ f. Within f (length left.now)) }
 {
-    let [l0, l1, l2, l3, t0, t1, t2, t3, ..] = rest else {
+    let [l0, l1, l2, l3, t0, t1, t2, t3, rest @ ..] = left else {
         return Err(Reason::Truncated);
     };
+    let short = u32::from_be_bytes([*l0, *l1, *l2, *l3]);
     let code = u32::from_be_bytes([*t0, *t1, *t2, *t3]);
-    match u32::from_be_bytes([*l0, *l1, *l2, *l3]) {
-        0 => to_end(code, rest.len(), top),
+    sized(code, short, rest, top)
+}
+
+// The box of a type and a length, with the rest of the container after the eight bytes that say them.
+fn sized(code: u32, short: u32, rest: &[u8], top: bool) -> Result<Frame, Reason>
+    ensures answer { result ≡ framed_by top code short (field 8 0 rest.now) (8 + length rest.now) }
+{
+    let left = 8 + rest.len();
+    match short {
+        0 => to_end(code, left, top),
         1 => long_frame(code, rest),
-        size => fitting(code, 8, size as usize, rest.len()),
+        size => fitting(code, 8, size as usize, left),
     }
 }
 
@@ -45,14 +55,15 @@ fn to_end(code: u32, left: usize, top: bool) -> Result<Frame, Reason>
     })
 }
 
-// A box whose length is the eight bytes after its type.
+// A box whose length is the eight bytes after its type, with which the rest of the container begins.
 fn long_frame(code: u32, rest: &[u8]) -> Result<Frame, Reason>
-    ensures answer { result ≡ judged ((nat_lt (length rest.now) 16, Reason.Truncated) ∷ length_tests 16 (long_length rest.now) (length rest.now)) (frame_made code 16 (long_length rest.now)) }
+    ensures answer { result ≡ judged ((nat_lt (8 + length rest.now) 16, Reason.Truncated) ∷ length_tests 16 (field 8 0 rest.now) (8 + length rest.now)) (frame_made code 16 (field 8 0 rest.now)) }
 {
-    if rest.len() < 16 {
+    let left = 8 + rest.len();
+    if left < 16 {
         return Err(Reason::Truncated);
     }
-    fitting(code, 16, read64(rest, 8) as usize, rest.len())
+    fitting(code, 16, read64(rest, 0) as usize, left)
 }
 
 // A box of a length that its header says.

@@ -26,7 +26,7 @@ pub enum Reason {
 }
 
 impl Reason {
-    // The refusal's number.
+    // The refusal's number. Two reasons have one, so it is not the variant's own number.
     pub fn number(self) -> u8
         ensures value { result ≡ reason_number self }
     {

@@ -1,7 +1,7 @@
 // The table of box types: what each is called, where it stands, and how often.
 ghost use Rattle.std.specs.Prelude.{◌≡◌};
 ghost use Rattle.boxes.specs.Table.{layer_of, entry_of, place_tests, reached};
-ghost use Rattle.boxes.specs.Tests.{first_failure};
+ghost use Rattle.boxes.specs.Tests.{judged};
 
 use crate::codes::{LHDR, LOBJ, OBJC, OHDR, PAGE, PHDR, RES, RESD};
 use crate::reason::Reason;
@@ -17,7 +17,7 @@ pub enum Place {
 }
 
 impl Place {
-    // The layer that a refusal carries.
+    // The layer that a refusal carries. A page and its resolution have one, so it is not the variant's own number.
     pub fn layer(self) -> u8
         ensures value { result ≡ layer_of self }
     {
@@ -44,22 +44,15 @@ pub enum Kind {
     ObjectHeader,
 }
 
-// How many boxes of a type a container may hold.
-#[derive(Clone, Copy)]
-pub enum Most {
-    Any,
-    UpTo(u8),
-}
-
-// A line of the table: the type's code and kind, the container that it stands in, how many there are at least and at most,
-// and whether it is the container's first box.
+// A line of the table: the type's code and kind, the container that it stands in, how many there are at least and at most, where `None` is
+// any number, and whether it is the container's first box.
 #[derive(Clone, Copy)]
 pub struct Entry {
     pub code: u32,
     pub kind: Kind,
     pub inside: Place,
     pub least: u8,
-    pub most: Most,
+    pub most: Option<u8>,
     pub first: bool,
 }
 
@@ -69,7 +62,7 @@ pub const TABLE: [Entry; 8] = [
         kind: Kind::Page,
         inside: Place::File,
         least: 0,
-        most: Most::Any,
+        most: None,
         first: false,
     },
     Entry {
@@ -77,7 +70,7 @@ pub const TABLE: [Entry; 8] = [
         kind: Kind::PageHeader,
         inside: Place::Page,
         least: 1,
-        most: Most::UpTo(1),
+        most: Some(1),
         first: true,
     },
     Entry {
@@ -85,7 +78,7 @@ pub const TABLE: [Entry; 8] = [
         kind: Kind::Resolution,
         inside: Place::Page,
         least: 1,
-        most: Most::UpTo(1),
+        most: Some(1),
         first: false,
     },
     Entry {
@@ -93,7 +86,7 @@ pub const TABLE: [Entry; 8] = [
         kind: Kind::DisplayResolution,
         inside: Place::Resolution,
         least: 1,
-        most: Most::UpTo(1),
+        most: Some(1),
         first: false,
     },
     Entry {
@@ -101,7 +94,7 @@ pub const TABLE: [Entry; 8] = [
         kind: Kind::LayoutObject,
         inside: Place::Page,
         least: 0,
-        most: Most::UpTo(64),
+        most: Some(64),
         first: false,
     },
     Entry {
@@ -109,7 +102,7 @@ pub const TABLE: [Entry; 8] = [
         kind: Kind::LayoutHeader,
         inside: Place::LayoutObject,
         least: 1,
-        most: Most::UpTo(1),
+        most: Some(1),
         first: true,
     },
     Entry {
@@ -117,7 +110,7 @@ pub const TABLE: [Entry; 8] = [
         kind: Kind::Object,
         inside: Place::LayoutObject,
         least: 1,
-        most: Most::UpTo(2),
+        most: Some(2),
         first: false,
     },
     Entry {
@@ -125,12 +118,13 @@ pub const TABLE: [Entry; 8] = [
         kind: Kind::ObjectHeader,
         inside: Place::Object,
         least: 1,
-        most: Most::UpTo(1),
+        most: Some(1),
         first: true,
     },
 ];
 
-// The line of a type code, or `None` where the table has no such type and its box is skipped.
+// The line of a type code, or `None` where the table has no such type and its box is skipped. By a `match`: with
+// `TABLE.iter().find(..).copied()`, which was tried and proved, reading a whole file took a quarter longer.
 pub fn entry_of(code: u32) -> Option<Entry>
     ensures value { result ≡ entry_of code }
 {
@@ -149,31 +143,28 @@ pub fn entry_of(code: u32) -> Option<Entry>
 
 // Whether a box stands where its type may, or what is wrong: `seen` boxes of its type stand in the container already, and `first` says that
 // no box at all does.
-pub fn misplaced(place: Place, entry: Entry, seen: u8, first: bool) -> Option<Reason>
-    ensures value { result ≡ first_failure (place_tests place entry seen first) }
+pub fn misplaced(place: Place, entry: Entry, seen: u8, first: bool) -> Result<(), Reason>
+    ensures value { result ≡ judged (place_tests place entry seen first) tt }
 {
     let full = is_reached(entry.most, seen);
     if entry.kind == Kind::LayoutObject && full {
-        return Some(Reason::TooManyObjects);
+        return Err(Reason::TooManyObjects);
     }
     if entry.inside != place {
-        return Some(Reason::Misplaced);
+        return Err(Reason::Misplaced);
     }
     if full {
-        return Some(Reason::Misplaced);
+        return Err(Reason::Misplaced);
     }
     if entry.first && !first {
-        return Some(Reason::Misplaced);
+        return Err(Reason::Misplaced);
     }
-    None
+    Ok(())
 }
 
 // Whether a number of boxes is as many as there may be.
-fn is_reached(most: Most, seen: u8) -> bool
+fn is_reached(most: Option<u8>, seen: u8) -> bool
     ensures value { result ≡ reached most seen }
 {
-    match most {
-        Most::Any => false,
-        Most::UpTo(limit) => limit <= seen,
-    }
+    most.is_some_and(|limit| limit <= seen)
 }

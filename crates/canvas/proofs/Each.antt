@@ -22,7 +22,7 @@ each_changed Q N R F i (x ∷ xs) h q n = (h i x q.0 n.0, each_changed Q N R F (
 -- where none gives anything, each gives nothing
 or-none : {Y : Type 0} (o p : Option Y) → or_else o p ≡ None → (o ≡ None) × (p ≡ None)
 or-none None p e = (refl, e)
-or-none (Some y) p e = let z : ◌≡◌ {A = ℕ} 0 1 = cc in absurd (omega arith)
+or-none (Some y) p e = absurd cc
 
 pub each_none : {X Y : Type 0} (F : ℕ → X → Option Y) (i : ℕ) (xs : List X) → gathered_from or_else None F i xs ≡ None → Each (λ j x. F j x ≡ None) i xs
 each_none F i [] e = tt
@@ -30,7 +30,7 @@ each_none F i (x ∷ xs) e = let p = or-none (F i x) (gathered_from or_else None
 
 -- what holds of each holds of the one at an index
 pub each_nth : {X : Type 0} (Q : ℕ → X → Type 0) (i n at : ℕ) (xs : List X) (x : X) → i + n ≡ at → slice_get xs n ≡ Some x → Each Q i xs → Q at x
-each_nth Q i n at [] x is e q = let z : ◌≡◌ {A = ℕ} 0 1 = cc in absurd (omega arith)
+each_nth Q i n at [] x is e q = absurd cc
 each_nth Q i zero at (y ∷ xs) x is e q =
     let same : y ≡ x = cc in
     let index : i ≡ at = omega arith in

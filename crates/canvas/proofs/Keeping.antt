@@ -44,24 +44,24 @@ nth-there (x ∷ xs) zero h = refl
 nth-there (x ∷ xs) (suc n) h = nth-there xs n (omega arith)
 
 nth-within : {X : Type 0} (xs : List X) (n : ℕ) (x : X) → slice_get xs n ≡ Some x → n < length xs
-nth-within [] n x e = let z : ◌≡◌ {A = ℕ} 0 1 = cc in absurd (omega arith)
+nth-within [] n x e = absurd cc
 nth-within (y ∷ xs) zero x e = omega arith
 nth-within (y ∷ xs) (suc n) x e = let h = nth-within xs n x e in omega arith
 
 -- the row of an object that is there
 row_of : (o : Option Row) (place : Placement) → option_map placement_of o ≡ Some place → (r : Row) × (o ≡ Some r) × (placement_of r ≡ place)
-row_of None place e = let z : ◌≡◌ {A = ℕ} 0 1 = cc in absurd (omega arith)
+row_of None place e = absurd cc
 row_of (Some r) place e = let same : placement_of r ≡ place = cc in (r, refl, same)
 
 -- nothing is in the way
 module _ {C : Type 0} (k : ℕ) (touch : ℕ → ℕ → Touch C) (area window : Rectangle) (cells : List (Cell C)) where
   clear-window : (b : Bool) (o : Option Refusal) (r : Refusal) → cond b o (Some r) ≡ None → (b ≡ true) × (o ≡ None)
   clear-window true o r e = (refl, e)
-  clear-window false o r e = let z : ◌≡◌ {A = ℕ} 0 1 = cc in absurd (omega arith)
+  clear-window false o r e = absurd cc
 
   clear_both : (o p : Option Refusal) → or_else o p ≡ None → p ≡ None
   clear_both None p e = e
-  clear_both (Some r) p e = let z : ◌≡◌ {A = ℕ} 0 1 = cc in absurd (omega arith)
+  clear_both (Some r) p e = absurd cc
 
   clear-way : in_the_way k touch area window cells ≡ None → (granted area window ≡ true) × (first area window (missing k touch) cells ≡ None)
   unfolding in_the_way
@@ -77,8 +77,8 @@ module _ {C : Type 0} (blended : C → C → Cover → C) (sheet : Sheet C) wher
   -- opening
   room_open : (b m : Bool) (n : ℕ) (r s : Refusal) (cells : ℕ) → cond b (cond m (Ok n) (Err r)) (Err s) ≡ Ok cells → m ≡ true
   room_open true true n r s cells e = refl
-  room_open true false n r s cells e = let z : ◌≡◌ {A = ℕ} 0 1 = cc in absurd (omega arith)
-  room_open false m n r s cells e = let z : ◌≡◌ {A = ℕ} 0 1 = cc in absurd (omega arith)
+  room_open true false n r s cells e = absurd cc
+  room_open false m n r s cells e = absurd cc
 
   open-room : (area : Rectangle) (memory : List (Cell C)) (answer : Result ℕ Refusal) → check_answer sheet.page area (length memory) ≡ answer →
       wide (area_by area answer) * high (area_by area answer) ≤ length memory
@@ -171,7 +171,7 @@ module _ {C : Type 0} (blended : C → C → Cover → C) (sheet : Sheet C) (v :
 
   holds-some : {X : Type 0} (b : Bool) (o : Option X) (x : X) → cond b o None ≡ Some x → (b ≡ true) × (o ≡ Some x)
   holds-some true o x e = (refl, e)
-  holds-some false o x e = let z : ◌≡◌ {A = ℕ} 0 1 = cc in absurd (omega arith)
+  holds-some false o x e = absurd cc
 
   pub cells-sound : (column row : ℕ) (cell : Cell C) → Stands v column row cell → cell.colour ≡ colour_to blended sheet cell.level column row
   unfolding inside

@@ -2,7 +2,7 @@
 -- Assumes nothing.
 use Rattle.std.proofs.Common.{◌≡◌, ℕ, ◌+◌, Bool, true, false, cond, eqb, List, Some, None, sym, refl, ap, ◌∙◌, ap₂, zero-add, arith}
 use Rattle.std.specs.List.{slice_get}
-use Rattle.std.proofs.lemmas.Bool.{eqb-true}
+use Rattle.std.proofs.lemmas.Bool.{eqb-true, true≢false}
 use Rattle.plan.specs.declared.layout.Row.{Row}
 use Rattle.raster.specs.Meanings.{Meaning}
 use Rattle.raster.specs.Touches.{touch_at}
@@ -90,10 +90,7 @@ module _ {C : Type 0} (blended : C → C → Cover → C) (sheet : Sheet C) (are
   fresh-sound : (i : ℕ) (cell : Cell C) (b : Bool) → inside area area i ≡ b →
       Sound blended sheet area i (cond b (fresh sheet.colour (column_at area i) (row_at area i) cell) cell)
   fresh-sound i cell true is = λ within. refl
-  fresh-sound i cell false is = λ within. absurd (both (sym within ∙ is))
-    where
-      both : true ≡ false → ⊥
-      both e = let z : ◌≡◌ {A = ℕ} 0 1 = cc in omega arith
+  fresh-sound i cell false is = λ within. absurd (true≢false (sym within ∙ is))
 
   pub each-fresh : (cells : List (Cell C)) → Each (Sound blended sheet area) 0 (changed area area (fresh sheet.colour) cells)
   unfolding changed change_at
@@ -114,10 +111,7 @@ module _ {C : Type 0} (area window : Rectangle) (grant : granted area window ≡
       cond a (level_of (column_at area i) (row_at area i) (cond b (laid_cell blended k touch (column_at area i) (row_at area i) cell) cell)) 0
       ≡ cond a (level_of (column_at area i) (row_at area i) cell) 0 + cond b (at_level k (column_at area i) (row_at area i) cell) 0
   laid-level blended k touch i cell true is true all = raised-level blended k touch (column_at area i) (row_at area i) cell (eqb cell.level k) refl
-  laid-level blended k touch i cell true is false all = absurd (apart (sym (in_area area window grant i is) ∙ all))
-    where
-      apart : true ≡ false → ⊥
-      apart e = let z : ◌≡◌ {A = ℕ} 0 1 = cc in omega arith
+  laid-level blended k touch i cell true is false all = absurd (true≢false (sym (in_area area window grant i is) ∙ all))
   laid-level blended k touch i cell false is true all = omega arith
   laid-level blended k touch i cell false is false all = refl
 
@@ -132,10 +126,7 @@ module _ {C : Type 0} (area window : Rectangle) (grant : granted area window ≡
       ≡ cond a (level_of (column_at area i) (row_at area i) (cond b (fresh colour (column_at area i) (row_at area i) cell) cell)) 0
       + cond b (level_of (column_at area i) (row_at area i) cell) 0
   wiped-level colour i cell true is true all = omega arith
-  wiped-level colour i cell true is false all = absurd (apart (sym (in_area area window grant i is) ∙ all))
-    where
-      apart : true ≡ false → ⊥
-      apart e = let z : ◌≡◌ {A = ℕ} 0 1 = cc in omega arith
+  wiped-level colour i cell true is false all = absurd (true≢false (sym (in_area area window grant i is) ∙ all))
   wiped-level colour i cell false is true all = omega arith
   wiped-level colour i cell false is false all = refl
 

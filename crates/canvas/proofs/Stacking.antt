@@ -17,14 +17,14 @@ module _ {C : Type 0} (blended : C → C → Cover → C) where
   -- one touch more
   stacked-next : (colour : C) (k : ℕ) (ts : List (Touch C)) (t : Touch C) → slice_get ts k ≡ Some t →
       stacked blended colour (take (suc k) ts) ≡ laid_over blended (stacked blended colour (take k ts)) t
-  stacked-next colour k [] t e = let z : ◌≡◌ {A = ℕ} 0 1 = cc in absurd (omega arith)
+  stacked-next colour k [] t e = absurd cc
   stacked-next colour zero (u ∷ ts) t e = let same : u ≡ t = cc in ap (laid_over blended colour) same
   stacked-next colour (suc k) (u ∷ ts) t e = stacked-next (laid_over blended colour u) k ts t e
 
   -- the touches of a row that is there
   touches-nth : (sheet : Sheet C) (i k : ℕ) (rows : List Row) (r : Row) (column row : ℕ) → slice_get rows k ≡ Some r →
       slice_get (touches_from sheet i rows column row) k ≡ Some (touch_at (placement_of r) (sheet.mask (i + k)) (sheet.image (i + k)) column row)
-  touches-nth sheet i k [] r column row e = let z : ◌≡◌ {A = ℕ} 0 1 = cc in absurd (omega arith)
+  touches-nth sheet i k [] r column row e = absurd cc
   touches-nth sheet i zero (s ∷ rows) r column row e =
       let same : s ≡ r = cc in
       let index : i ≡ i + 0 = omega arith in

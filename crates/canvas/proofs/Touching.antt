@@ -1,6 +1,6 @@
 -- The touch by sources that belong to a sheet is the sheet's own, where nothing is missing.
 -- Assumes nothing.
-use Rattle.std.proofs.Common.{◌≡◌, ℕ, ◌+◌, ◌-◌, Bool, true, false, cond, ◌&&◌, eqb, ltb, leb, ◌⊎◌, Some, None, Option, sym, refl, ap, ◌∙◌, subst, ap₂, inl, inr, arith}
+use Rattle.std.proofs.Common.{◌≡◌, ℕ, ◌+◌, ◌-◌, Bool, true, false, cond, ◌&&◌, eqb, ltb, leb, ◌⊎◌, Some, None, Option, sym, refl, ap, ◌∙◌, subst, ap₂, inl, inr}
 use Rattle.raster.specs.Meanings.{Meaning, is_place, found, looked}
 use Rattle.raster.specs.Touches.{within, looked_from, dabbed, joined, touch_at}
 use Rattle.raster.specs.declared.covers.Cover.{Cover}
@@ -48,14 +48,13 @@ module _ {S : Type 0} (m whole : Meaning S) (belongs : Belongs m whole) where
 module _ {C : Type 0} (column row : ℕ) where
   -- a touch that lacks something is refused
   gone-mask : (o : Touch C) → o ≡ MaskMissing → missing_touch column row o ≡ None → ⊥
-  gone-mask o e h = let f = ap (missing_touch column row) e in let z : ◌≡◌ {A = ℕ} 0 1 = cc in omega arith
+  gone-mask o e h = let f = ap (missing_touch column row) e in cc
 
   near-dabbed : (cover : Cover) (image whole : Look C) → Near image whole → missing_touch column row (dabbed cover image) ≡ None → dabbed cover image ≡ dabbed cover whole
   unfolding Near
   near-dabbed cover image whole (inl e) h =
       let f = ap (λ x. missing_touch column row (dabbed cover x)) e in
-      let z : ◌≡◌ {A = ℕ} 0 1 = cc in
-      absurd (omega arith)
+      absurd cc
   near-dabbed cover image whole (inr e) h = ap (dabbed cover) e
 
   near-cover : (cover : Cover) (b : Bool) (image whole : Look C) → Near image whole →
@@ -66,10 +65,10 @@ module _ {C : Type 0} (column row : ℕ) where
   near-joined : (mask mask_whole : Look Cover) (image image_whole : Look C) → Near mask mask_whole → Near image image_whole →
       missing_touch column row (joined mask image) ≡ None → joined mask image ≡ joined mask_whole image_whole
   unfolding Near
-  near-joined Outside mask_whole image image_whole (inl e) near h = let z : ◌≡◌ {A = ℕ} 0 1 = cc in absurd (omega arith)
+  near-joined Outside mask_whole image image_whole (inl e) near h = absurd cc
   near-joined Outside mask_whole image image_whole (inr e) near h = ap (λ x. joined x image_whole) e
-  near-joined Missing mask_whole image image_whole by near h = let z : ◌≡◌ {A = ℕ} 0 1 = cc in absurd (omega arith)
-  near-joined (Found cover) mask_whole image image_whole (inl e) near h = let z : ◌≡◌ {A = ℕ} 0 1 = cc in absurd (omega arith)
+  near-joined Missing mask_whole image image_whole by near h = absurd cc
+  near-joined (Found cover) mask_whole image image_whole (inl e) near h = absurd cc
   near-joined (Found cover) mask_whole image image_whole (inr e) near h =
       near-cover cover (eqb cover.amount 0) image image_whole near h ∙ ap (λ x. joined x image_whole) e
 

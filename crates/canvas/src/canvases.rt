@@ -8,13 +8,13 @@ ghost use Rattle.canvas.specs.Sheets.{Sheet};
 ghost use Rattle.canvas.specs.Views.{opened, lay_answer, laid, levels_wiped, wiped, finished_shown, shown_in, shown_from, finished, standing};
 
 use crate::checks::prepare;
-use crate::objects::lay_object;
 use crate::placements::place_of;
-use cells::{Cell, Frame, Rectangle, Refusal, show_window, tally, wipe_window};
+use cells::{Cell, Frame, Rectangle, Refusal, lay_window, show_window, tally, wipe_window};
 use plan::lawful::Plan;
-use raster::{Colour, Cover, Source};
+use raster::{Colour, Cover, Layer, Source};
 
-// A rectangle of a page that is being drawn. The cells lie in the caller's memory.
+// A rectangle of a page that is being drawn. The cells lie in the caller's memory. Clauses see it by `view_of`, and not by an
+// `impl Model`, which would hide the field by which a caller learns that its memory is lent.
 #[derive(Drop)]
 pub struct Canvas<'a, C> {
     cells: &'a mut [Cell<C>],
@@ -44,6 +44,8 @@ impl<'a, C: Copy> Canvas<'a, C> {
     }
 }
 
+// Each call that keeps the canvas says that it still holds the caller's memory (`lends`). It is a clause, and no ghost field,
+// since it compares the canvas before a call with the canvas after it.
 impl<'a, C: Colour> Canvas<'a, C> {
     // Lays the object `k` on a window: each cell at level `k` takes its touch and gets level `k + 1`, and cells above
     // level `k` are passed over. Answers how many cells were raised and how many were passed over.
@@ -58,9 +60,10 @@ impl<'a, C: Colour> Canvas<'a, C> {
         ensures canvas { view_of self.new ≡ laid C.Colour.blended (view_of self.old) k window (M.Source.meaning mask.now) (I.Source.meaning image.now) }
         ensures lends { self.new.cells.ghost_name ≡ self.old.cells.ghost_name }
     {
-        let place = place_of(&self.plan, k);
+        let place = place_of(&self.plan, k).ok_or(Refusal::Object)?;
         let frame = self.frame;
-        lay_object(self.cells, frame, place, k, window, mask, image)
+        let layer = Layer { place, mask, image };
+        lay_window(self.cells, frame, window, k as u8, &layer)
     }
 
     // Gives the cells of a window the page colour and level 0, and answers the sum of their former levels.
@@ -76,14 +79,16 @@ impl<'a, C: Colour> Canvas<'a, C> {
     // Writes the colours of a window, row after row, to the beginning of a buffer, and answers how many of its cells
     // are finished. Nothing in the canvas changes.
     pub fn show(&mut self, window: Rectangle, buffer: &mut [u8]) -> Result<u64, Refusal>
-        ensures answer { result ≡ finished_shown C.Colour.size (view_of self.old) window buffer.old }
-        ensures buffer { buffer.new ≡ shown_in C.Colour.shown C.Colour.size (view_of self.old) window buffer.old }
+        ensures answer { result ≡ finished_shown C.Colour.BYTES (view_of self.old) window buffer.old }
+        ensures buffer { buffer.new ≡ shown_in C.Colour.shown C.Colour.BYTES (view_of self.old) window buffer.old }
         ensures canvas { view_of self.new ≡ shown_from (view_of self.old) }
         ensures lends { self.new.cells.ghost_name ≡ self.old.cells.ghost_name }
     {
         let full = self.plan.count() as u16;
         let frame = self.frame;
-        show_window(self.cells, frame, window, full, buffer)
+        // Lent through a local: the check doesn't cover a shared slice that is lent straight from a field.
+        let cells = &mut *self.cells;
+        show_window(cells, frame, window, full, buffer)
     }
 
     // Whether the cells that lays reported raised are as many as the levels that wipes reported and those that stand in
@@ -98,7 +103,9 @@ impl<'a, C: Colour> Canvas<'a, C> {
         ensures lends { self.new.cells.ghost_name ≡ self.old.cells.ghost_name }
     {
         let frame = self.frame;
-        let (_, levels) = tally(self.cells, frame, 0);
+        // Lent through a local, as in `show`.
+        let cells = &mut *self.cells;
+        let (_, levels) = tally(cells, frame, 0);
         agrees(raised, removed, levels)
     }
 

@@ -33,12 +33,11 @@ pub fn check_size(plan: &Plan, rectangle: Rectangle, memory: usize) -> Result<us
     if !is_lawful(plan, rectangle) {
         return Err(Refusal::Rectangle);
     }
-    let wide = (rectangle.right - rectangle.left) as usize;
-    let high = (rectangle.bottom - rectangle.top) as usize;
-    if memory < wide * high {
+    let cells = rectangle.columns() as usize * rectangle.rows() as usize;
+    if memory < cells {
         return Err(Refusal::Memory);
     }
-    Ok(wide * high)
+    Ok(cells)
 }
 
 // The number of cells that a canvas on a rectangle of a page has; refused where the rectangle cannot be a canvas, and
@@ -59,15 +58,9 @@ fn frame_of(plan: &Plan, rectangle: Rectangle, memory: usize) -> Frame
 {
     match check_size(plan, rectangle, memory) {
         Ok(_) => Frame { area: rectangle },
-        Err(_) => {
-            let area = Rectangle {
-                left: 0,
-                top: 0,
-                right: 0,
-                bottom: 0,
-            };
-            Frame { area }
-        }
+        Err(_) => Frame {
+            area: Rectangle::default(),
+        },
     }
 }
 

@@ -4,7 +4,6 @@
 mod canvases;
 mod cases;
 mod checks;
-mod objects;
 mod placements;
 
 pub use canvases::Canvas;

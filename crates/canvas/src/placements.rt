@@ -45,6 +45,5 @@ pub fn place_of(plan: &Plan, k: u32) -> Option<Placement>
     if number >= plan.count() {
         return None;
     }
-    let row = plan.row(number)?;
-    Some(placement(row))
+    plan.row(number).map(placement)
 }

@@ -2,12 +2,17 @@
 // bytes of the file as `hex:` with two digits each.
 #![tactic(auto)]
 
-use anyhow::anyhow;
+ghost use Rattle.std.specs.Prelude.{◌<◌, IfSome};
+
+use anyhow::{Context, bail};
 use plan::lawful::Plan;
-use reader::read::{Refusal, read};
+use reader::read::read;
 use std::alloc::{AllocError, Global};
 
-fn digit(letter: u8) -> Option<u8> {
+// What a digit stands for. Capitals are none here, and std's `to_digit` takes them.
+fn digit(letter: u8) -> Option<u8>
+    ensures bound { IfSome result (λ value. value < 16) }
+{
     match letter {
         b'0'..=b'9' => Some(letter - b'0'),
         b'a'..=b'f' => Some(letter - b'a' + 10),
@@ -15,45 +20,17 @@ fn digit(letter: u8) -> Option<u8> {
     }
 }
 
-// The bytes that pairs of digits say, up to the first letter that is none.
-fn bytes_of(heap: Global, text: &[u8]) -> Result<Vec<u8>, AllocError> {
-    let mut bytes = Vec::new(heap);
-    for pair in text.chunks(2) {
-        let [high, low] = pair else {
-            break;
-        };
-        let (Some(high), Some(low)) = (digit(*high), digit(*low)) else {
-            break;
-        };
-        bytes.push((high & 15) * 16 + (low & 15))?;
-    }
-    Ok(bytes)
+// The byte that a pair of digits says.
+fn byte_of(pair: &[u8]) -> Option<u8> {
+    let [high, low] = pair else {
+        return None;
+    };
+    Some(digit(*high)? * 16 + digit(*low)?)
 }
 
-fn show(
-    rt: &HostRuntime,
-    name: &str,
-    answer: Result<(), Refusal>,
-    plan: &Plan,
-) -> anyhow::Result<()> {
-    match answer {
-        Ok(()) => {
-            let rows = plan.count();
-            println!(rt; "{name}: granted, {rows} rows")?;
-        }
-        Err(refusal) => {
-            let number = refusal.number();
-            match refusal {
-                Refusal::Faulty(fault) => {
-                    let layer = fault.layer();
-                    let offset = fault.offset;
-                    println!(rt; "{name}: refused {number} layer {layer} offset {offset}")?;
-                }
-                Refusal::NoSuchPage => println!(rt; "{name}: refused {number}")?,
-            }
-        }
-    }
-    Ok(())
+// The bytes that pairs of digits say, up to the first pair that is none.
+fn bytes_of(alloc: Global, text: &[u8]) -> Result<Vec<u8>, AllocError> {
+    text.chunks(2).map_while(byte_of).collect(alloc)
 }
 
 fn run(rt: &HostRuntime) -> anyhow::Result<()> {
@@ -62,15 +39,17 @@ fn run(rt: &HostRuntime) -> anyhow::Result<()> {
         let mut words = line.as_str().split(' ');
         let (Some(name), Some(number), Some(file)) = (words.next(), words.next(), words.next())
         else {
-            return Err(anyhow!("a line is a name, a page's number and the bytes"));
+            bail!("a line is a name, a page's number and the bytes");
         };
-        let Some(digits) = file.strip_prefix("hex:") else {
-            return Err(anyhow!("the bytes begin with hex:"));
-        };
+        let digits = file
+            .strip_prefix("hex:")
+            .context("the bytes begin with hex:")?;
         let bytes = bytes_of(rt.alloc(), digits.as_bytes())?;
         let mut plan = Plan::blank();
-        let answer = read(bytes.as_slice(), number.parse::<u64>()?, &mut plan);
-        show(rt, name, answer, &plan)?;
+        match read(bytes.as_slice(), number.parse::<u64>()?, &mut plan) {
+            Ok(()) => println!(rt; "{name}: granted, {} rows", plan.count())?,
+            Err(refusal) => println!(rt; "{name}: {refusal}")?,
+        }
     }
     Ok(())
 }

@@ -2,7 +2,7 @@
 -- Assumes nothing.
 use Rattle.std.proofs.Common.{◌≡◌, ℕ, suc, ◌+◌, ◌-◌, ◌*◌, ◌/◌, ◌%◌, ◌<◌, ◌≤◌, Bool, true, false, ◌&&◌, ltb, leb, ◌⊎◌, sym, refl, ap, ◌∙◌, inl, inr, mul-le-mul_right, mod-lt, suc-mul, div-add-mod', arith}
 use Rattle.std.proofs.lemmas.Nat.{div-mul-add, mod-mul-add}
-use Rattle.std.proofs.lemmas.Bool.{and_parts, and_from, leb-true, ltb-true, le-leb, lt-ltb, lt-leb, cases_lt, and_left}
+use Rattle.std.proofs.lemmas.Bool.{and_parts, and_from, leb-true, ltb-true, le-leb, lt-ltb, lt-leb, cases_lt, and_left, false_from_ne_true}
 use Rattle.cells.specs.Windows.{wide, holds, column_at, row_at, index_at, inside, spanned, granted}
 use Rattle.cells.specs.declared.rectangles.Rectangle.{Rectangle}
 
@@ -11,11 +11,6 @@ pub tests_equal : (x y : Bool) → (x ≡ true → y ≡ true) → (y ≡ true �
 tests_equal true y f h = sym (f refl)
 tests_equal false true f h = h refl
 tests_equal false false f h = refl
-
--- a test that cannot pass
-pub test_false : (x : Bool) → (x ≡ true → ⊥) → x ≡ false
-test_false true h = absurd (h refl)
-test_false false h = refl
 
 -- a position lies in a rectangle
 pub record Held (r : Rectangle) (column row : ℕ) : Type 0 where
@@ -116,6 +111,11 @@ order_rows w a q rows =
 unfoldable pub rest : Rectangle → Rectangle → ℕ → ℕ → Bool
 rest area window at i = leb at i && inside area window i
 
+-- none of them comes before
+pub rest-before : (area window : Rectangle) (at i : ℕ) → i < at → rest area window at i ≡ false
+unfolding rest
+rest-before area window at i less = and_left _ _ (lt-leb at i less)
+
 module _ (area window : Rectangle) (ok : Granted area window) where
   -- every cell of the window comes at or after its first
   first-least : (i : ℕ) → inside area window i ≡ true → index_at area window.left window.top ≤ i
@@ -135,7 +135,7 @@ module _ (area window : Rectangle) (ok : Granted area window) where
   pub rest_end : (i : ℕ) → rest area window (index_at area window.left window.bottom) i ≡ false
   unfolding rest
   rest_end i =
-      test_false _
+      false_from_ne_true _
       (λ h.
       let p = and_parts (leb (index_at area window.left window.bottom) i) (inside area window i) h in
       let l = lies area window ok i p.1 in

@@ -4,10 +4,10 @@ use Rattle.std.proofs.Common.{◌≡◌, ℕ, ◌+◌, ◌<◌, ◌≤◌, cond,
 use mathlib.Core.Path.{fun_ext}
 use Rattle.std.proofs.lemmas.Bool.{cond-true, cond-false, cases_order}
 use Rattle.cells.specs.Windows.{column_at, row_at, index_at, inside}
-use Rattle.cells.specs.Gathers.{changed_from, gathered_from, changed_one, gathered_one, change_at, gather_at}
+use Rattle.cells.specs.Gathers.{changed_from, gathered_from, change_at, gather_at}
 use Rattle.cells.specs.declared.rectangles.Rectangle.{Rectangle}
-use Rattle.cells.proofs.Places.{Held, Granted, Next, rest, next, rest-start, rest_end, rest-row, inside-index, index_next, column-index, row-index}
-use Rattle.cells.proofs.Steps.{changed-kept, gathered_none, changed-step, gathered-step, gathered_past}
+use Rattle.cells.proofs.Places.{Held, Granted, Next, rest, next, rest-start, rest-before, rest_end, rest-row, inside-index, index_next, column-index, row-index}
+use Rattle.cells.proofs.Steps.{changed_one, gathered_one, changed-kept, gathered_none, changed-step, gathered-step, gathered-past}
 
 -- the cells from the `at`-th on that are in the window, changed
 unfoldable pub changed_rest : {X : Type 0} → Rectangle → Rectangle → (ℕ → ℕ → X → X) → ℕ → List X → List X
@@ -47,6 +47,12 @@ module _ (area window : Rectangle) (ok : Granted area window) where
     pub gathered-last : (xs : List X) → gathered_rest join none area window f (index_at area window.left window.bottom) xs ≡ none
     unfolding gathered_rest gather_at
     gathered-last xs = gathered_none join none unit _ 0 xs (λ j x. cond-false _ _ _ (rest_end area window ok j))
+
+    -- what comes from the `i`-th cell on doesn't look at a cell before, which is changed
+    pub gathered-before : (at i : ℕ) → at < i → (h : X → X) (xs : List X) →
+        gathered_rest join none area window f i (changed_one h at xs) ≡ gathered_rest join none area window f i xs
+    unfolding gathered_rest gather_at
+    gathered-before at i less h xs = gathered-past join none _ h at (λ x. cond-false _ _ _ (rest-before area window i at less)) 0 at xs (zero-add at)
 
   -- at a position of the window
   module _ (column row : ℕ) (held : Held window column row) where
@@ -103,11 +109,3 @@ module _ (area window : Rectangle) (ok : Granted area window) where
           (λ j x l. cond-false _ _ _ (there.before-too j l))
           (λ j x l. ap (λ b. cond b (f (column_at area j) (row_at area j) x) none) (there.after j l))
           0 at xs (zero-add at))
-
-      -- what comes after does not look at the cell that was changed
-      pub gathered-after : (h : X → X) (xs : List X) →
-          gathered_rest join none area window f (index_at area (column + 1) row) (changed_one h (index_at area column row) xs)
-          ≡ gathered_rest join none area window f (index_at area (column + 1) row) xs
-      unfolding gathered_rest gather_at at
-      gathered-after h xs =
-          rw then_next (gathered_past join none _ h at (λ x. cond-false _ _ _ there.gone) 0 at xs (zero-add at))

@@ -1,8 +1,7 @@
 -- Lists whose elements are changed, or gathered from, by functions of an element and its index; then the same over the
 -- cells of an area that lie in a window, by functions of an element and its position.
 -- Assumes nothing.
-use Rattle.std.specs.Prelude.{ℕ, zero, suc, ◌+◌, Bool, cond, List, [], ◌∷◌, ◌++◌, Some, None, Option}
-use Rattle.std.specs.List.{slice_get}
+use Rattle.std.specs.Prelude.{ℕ, suc, ◌+◌, Bool, cond, List, [], ◌∷◌, ◌++◌, Some, None, Option}
 use Rattle.cells.specs.Windows.{column_at, row_at, inside}
 use Rattle.cells.specs.declared.rectangles.Rectangle.{Rectangle}
 
@@ -15,21 +14,6 @@ changed_from f i (x ∷ xs) = f i x ∷ changed_from f (suc i) xs
 abbrev pub gathered_from : {X Y : Type 0} → (Y → Y → Y) → Y → (ℕ → X → Y) → ℕ → List X → Y
 gathered_from join none f i [] = none
 gathered_from join none f i (x ∷ xs) = join (f i x) (gathered_from join none f (suc i) xs)
-
--- the element at one index changed, where there is one
-abbrev pub changed_one : {X : Type 0} → (X → X) → ℕ → List X → List X
-changed_one f n [] = []
-changed_one f zero (x ∷ xs) = f x ∷ xs
-changed_one f (suc n) (x ∷ xs) = x ∷ changed_one f n xs
-
--- what an element gives that may not be there
-abbrev pub given : {X Y : Type 0} → Y → (X → Y) → Option X → Y
-given none f None = none
-given none f (Some x) = f x
-
--- what the element at one index gives, where there is one
-abbrev pub gathered_one : {X Y : Type 0} → Y → (X → Y) → ℕ → List X → Y
-gathered_one none f n xs = given none f (slice_get xs n)
 
 -- the first of two that is there
 abbrev pub or_else : {Y : Type 0} → Option Y → Option Y → Option Y

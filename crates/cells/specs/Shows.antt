@@ -1,7 +1,8 @@
 -- What a window shows.
 -- Assumes nothing.
-use Rattle.std.specs.Prelude.{ℕ, ◌+◌, ◌*◌, Bool, cond, List, length, Ok, Err, Result, nat_le}
-use Rattle.raster.specs.Shown.{put, room}
+use Rattle.std.specs.Prelude.{ℕ, ◌*◌, Bool, cond, List, length, Ok, Err, Result, nat_le}
+use Rattle.std.specs.List.{flat_map}
+use Rattle.raster.specs.Shown.{put}
 use Rattle.cells.specs.Gathers.{total, listed}
 use Rattle.cells.specs.Passes.{at_level, shown_cell}
 use Rattle.cells.specs.Windows.{wide, high}
@@ -26,6 +27,6 @@ show_answer size full area window cells buffer = cond (long_enough window size b
 abbrev pub show_buffer : {C : Type 0} → (C → List ℕ) → ℕ → Rectangle → Rectangle → List (Cell C) → List ℕ → List ℕ
 show_buffer shown size area window cells buffer = cond (long_enough window size buffer) (put buffer 0 (shown_window shown area window cells)) buffer
 
--- the place after some bytes, where there is room for them
-abbrev pub place_after : List ℕ → ℕ → List ℕ → ℕ
-place_after buffer to bytes = cond (room buffer to bytes) (to + length bytes) to
+-- the colours of cells, one after another
+abbrev pub shown_cells : {C : Type 0} → (C → List ℕ) → List (Cell C) → List ℕ
+shown_cells shown cells = flat_map (λ cell. shown cell.colour) cells

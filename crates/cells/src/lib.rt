@@ -2,7 +2,6 @@
 #![tactic(auto)]
 
 mod frames;
-mod grants;
 mod lays;
 mod obstacles;
 mod ones;

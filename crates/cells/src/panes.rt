@@ -1,8 +1,9 @@
-// A window of a canvas that has passed.
-ghost use Rattle.std.specs.Prelude.{◌≡◌, ◌≤◌, true};
-ghost use Rattle.cells.specs.Windows.{wide, granted};
+// A window of a canvas that has passed, and where its cells lie.
+ghost use Rattle.std.specs.Prelude.{◌≡◌, ◌+◌, ◌*◌, ◌^◌, ◌<◌, ◌≤◌, min, true};
+ghost use Rattle.cells.specs.Windows.{wide, high, granted, index_at};
 
 use crate::rectangles::Rectangle;
+use std::ops::Range;
 
 #[derive(Clone, Copy)]
 pub struct Pane {
@@ -10,4 +11,37 @@ pub struct Pane {
     pub window: Rectangle,
     ghost narrow: { wide area ≤ 1024 },
     ghost passes: { granted area window ≡ true },
+}
+
+impl Pane {
+    // How many positions the window has.
+    pub fn positions(self) -> usize
+        ensures value { result ≡ wide self.window * high self.window }
+        ensures bound { result < 2 ^ 43 }
+    {
+        self.window.columns() as usize * self.window.rows() as usize
+    }
+
+    // Where the cells of a row of the window lie in a memory of so many cells: all that are there, at most 1,024. Each
+    // pass is a loop over the rows with this, and not one function with a closure for a row: of what a closure adds to
+    // the totals that it captures a proof would know nothing. A row is a plain slice, whose length a pass bounds in its
+    // `requires`: a struct that says so would have to be two, over a shared slice and over a mutable one.
+    pub fn row_span(self, row: u32, length: usize) -> Range<usize>
+        ensures from { result.start ≡ min (index_at self.area self.window.left row) length }
+        ensures to { result.end ≡ min (index_at self.area self.window.left row + wide self.window) length }
+    {
+        let start = self.row_start(row);
+        start.min(length)..(start + self.window.columns() as usize).min(length)
+    }
+
+    // Which cell lies at the left of a row of the window, for any row.
+    fn row_start(self, row: u32) -> usize
+        ensures value { result ≡ index_at self.area self.window.left row }
+        ensures bound { result < 2 ^ 43 }
+    {
+        let area = self.area;
+        let down = row.saturating_sub(area.top) as usize;
+        let across = self.window.left.saturating_sub(area.left) as usize;
+        down * area.columns() as usize + across
+    }
 }

@@ -3,6 +3,8 @@ ghost use Rattle.std.specs.Prelude.{◌≡◌};
 ghost use Rattle.cells.specs.Refusals.{number_of};
 
 use crate::rectangles::Position;
+use std::error::Error;
+use std::fmt;
 
 #[derive(Clone, Copy, PartialEq, Eq, Debug)]
 pub enum Refusal {
@@ -25,7 +27,7 @@ pub enum Refusal {
 }
 
 impl Refusal {
-    // The number of the refusal.
+    // The number of the refusal, by a `match`, since `as` takes no enum whose variants have fields.
     pub fn number(self) -> u8
         ensures value { result ≡ number_of self }
     {
@@ -41,3 +43,26 @@ impl Refusal {
         }
     }
 }
+
+impl fmt::Display for Refusal {
+    ghost use Rattle.std.specs.Prelude.{Some};
+    ghost use Rattle.cells.specs.Refusals.{text_of};
+
+    ghost output = { λ refusal. Some (text_of refusal) };
+
+    fn fmt<W: fmt::Write>(&self, f: &mut fmt::Formatter<W>) -> fmt::Result {
+        let number = self.number();
+        match self {
+            Refusal::OutOfTurn(Position { column, row }, level) => {
+                write!(f, "refused {number} at {column} {row} level {level}")
+            }
+            Refusal::MaskMissing(Position { column, row })
+            | Refusal::ImageMissing(Position { column, row }) => {
+                write!(f, "refused {number} at {column} {row}")
+            }
+            _ => write!(f, "refused {number}"),
+        }
+    }
+}
+
+impl Error for Refusal {}

@@ -1,27 +1,36 @@
 // The pass that counts the finished cells of a window and adds up its levels.
-ghost use Rattle.std.specs.Prelude.{◌≡◌};
+ghost use Rattle.std.specs.Prelude.{◌≡◌, ◌≤◌, length};
+ghost use Rattle.std.specs.List.{sum_by};
 ghost use Rattle.cells.specs.Gathers.{total};
 ghost use Rattle.cells.specs.Passes.{at_level, level_of};
 
-use crate::grants::index_of;
-use crate::ones::tally_one;
 use crate::panes::Pane;
 use crate::stored::Cell;
 
+// How many cells of a row stand at the level `full`, and the sum of the row's levels.
+fn tally_row<C: Copy>(cells: &[Cell<C>], full: u16) -> (u32, u32)
+    requires { length cells.now ≤ 1024 }
+    ensures finished { result.0 ≡ sum_by (at_level full 0 0) cells.now }
+    ensures levels { result.1 ≡ sum_by (level_of 0 0) cells.now }
+{
+    let finished = cells.iter().filter(|cell| cell.level == full).count() as u32;
+    let levels = cells.iter().map(|cell| cell.level as u32).sum();
+    (finished, levels)
+}
+
 // How many cells of a window stand at the level `full`, and the sum of the window's levels.
-pub fn tally_cells<C: Copy>(cells: &mut [Cell<C>], pane: Pane, full: u16) -> (u64, u64)
-    ensures finished { result.0 ≡ total pane.area pane.window (at_level full) cells.old }
-    ensures levels { result.1 ≡ total pane.area pane.window level_of cells.old }
-    ensures same { cells.new ≡ cells.old }
+pub fn tally_cells<C: Copy>(cells: &[Cell<C>], pane: Pane, full: u16) -> (u64, u64)
+    ensures finished { result.0 ≡ total pane.area pane.window (at_level full) cells.now }
+    ensures levels { result.1 ≡ total pane.area pane.window level_of cells.now }
 {
     let mut finished: u64 = 0;
     let mut levels: u64 = 0;
+    // Row by row, in a loop: see `Pane::row_span`.
     for row in pane.window.top..pane.window.bottom {
-        for column in pane.window.left..pane.window.right {
-            let (done, level) = tally_one(cells, index_of(pane, column, row), full, column, row);
-            finished += done;
-            levels += level;
-        }
+        let span = pane.row_span(row, cells.len());
+        let (done, level) = tally_row(&cells[span.start..span.end], full);
+        finished += done as u64;
+        levels += level as u64;
     }
     (finished, levels)
 }

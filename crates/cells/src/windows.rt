@@ -1,12 +1,10 @@
 // The calls on a window of a canvas: each asks first whether the window passes, and leaves everything as it was where it is refused.
 ghost use Rattle.std.specs.Prelude.{◌≡◌};
-ghost use Rattle.raster.specs.Touches.{touch_at};
 ghost use Rattle.cells.specs.Gathers.{changed, total};
 ghost use Rattle.cells.specs.Outcomes.{in_the_way, lay_counts, laid_cells, wipe_answer, wiped_cells, shown_answer, shown_buffer};
 ghost use Rattle.cells.specs.Passes.{at_level, fresh, level_of};
 
 use crate::frames::Frame;
-use crate::grants::{pane, whole};
 use crate::lays::lay_cells;
 use crate::obstacles::first_obstacle;
 use crate::rectangles::Rectangle;
@@ -15,28 +13,24 @@ use crate::shows::show_cells;
 use crate::stored::Cell;
 use crate::tallies::tally_cells;
 use crate::wipes::wipe_cells;
-use raster::{Colour, Cover, Placement, Source};
+use raster::{Colour, Touching};
 
-// Lays the object `k`, which stands at `place`, on a window.
-pub fn lay_window<C: Colour, M: Source<Sample = Cover>, I: Source<Sample = C>>(
+// Lays the object `k` on a window.
+pub fn lay_window<C: Colour, L: Touching<Colour = C>>(
     cells: &mut [Cell<C>],
     frame: Frame,
     window: Rectangle,
     k: u8,
-    place: Placement,
-    mask: &M,
-    image: &I,
+    layer: &L,
 ) -> Result<(u64, u64), Refusal>
-    ensures answer { result ≡ lay_counts k frame.area window cells.old (in_the_way k (touch_at place (M.Source.meaning mask.now) (I.Source.meaning image.now)) frame.area window cells.old) }
-    ensures cells { cells.new ≡ laid_cells C.Colour.blended k (touch_at place (M.Source.meaning mask.now) (I.Source.meaning image.now)) frame.area window cells.old (in_the_way k (touch_at place (M.Source.meaning mask.now) (I.Source.meaning image.now)) frame.area window cells.old) }
+    ensures answer { result ≡ lay_counts k frame.area window cells.old (in_the_way k (L.Touching.touch layer.now) frame.area window cells.old) }
+    ensures cells { cells.new ≡ laid_cells C.Colour.blended k (L.Touching.touch layer.now) frame.area window cells.old (in_the_way k (L.Touching.touch layer.now) frame.area window cells.old) }
 {
-    let Some(pane) = pane(frame, window) else {
-        return Err(Refusal::Window);
-    };
-    if let Some(refusal) = first_obstacle(cells, pane, k, place, mask, image) {
-        return Err(refusal);
+    let pane = frame.pane(window)?;
+    match first_obstacle(cells, pane, k, layer) {
+        Some(refusal) => Err(refusal),
+        None => Ok(lay_cells(cells, pane, k, layer)),
     }
-    Ok(lay_cells(cells, pane, k, place, mask, image))
 }
 
 // Wipes a window.
@@ -49,27 +43,22 @@ pub fn wipe_window<C: Copy>(
     ensures answer { result ≡ wipe_answer frame.area window cells.old }
     ensures cells { cells.new ≡ wiped_cells colour frame.area window cells.old }
 {
-    let Some(pane) = pane(frame, window) else {
-        return Err(Refusal::Window);
-    };
+    let pane = frame.pane(window)?;
     Ok(wipe_cells(cells, pane, colour))
 }
 
 // Shows a window in a buffer.
 pub fn show_window<C: Colour>(
-    cells: &mut [Cell<C>],
+    cells: &[Cell<C>],
     frame: Frame,
     window: Rectangle,
     full: u16,
     buffer: &mut [u8],
 ) -> Result<u64, Refusal>
-    ensures answer { result ≡ shown_answer C.Colour.size full frame.area window cells.old buffer.old }
-    ensures buffer { buffer.new ≡ shown_buffer C.Colour.shown C.Colour.size frame.area window cells.old buffer.old }
-    ensures same { cells.new ≡ cells.old }
+    ensures answer { result ≡ shown_answer C.Colour.BYTES full frame.area window cells.now buffer.old }
+    ensures buffer { buffer.new ≡ shown_buffer C.Colour.shown C.Colour.BYTES frame.area window cells.now buffer.old }
 {
-    let Some(pane) = pane(frame, window) else {
-        return Err(Refusal::Window);
-    };
+    let pane = frame.pane(window)?;
     show_cells(cells, pane, full, buffer)
 }
 
@@ -77,14 +66,13 @@ pub fn show_window<C: Colour>(
 pub fn clear<C: Copy>(cells: &mut [Cell<C>], frame: Frame, colour: C)
     ensures cells { cells.new ≡ changed frame.area frame.area (fresh colour) cells.old }
 {
-    let _ = wipe_cells(cells, whole(frame), colour);
+    let _ = wipe_cells(cells, frame.whole(), colour);
 }
 
 // How many cells of a canvas stand at the level `full`, and the sum of all its levels.
-pub fn tally<C: Copy>(cells: &mut [Cell<C>], frame: Frame, full: u16) -> (u64, u64)
-    ensures finished { result.0 ≡ total frame.area frame.area (at_level full) cells.old }
-    ensures levels { result.1 ≡ total frame.area frame.area level_of cells.old }
-    ensures same { cells.new ≡ cells.old }
+pub fn tally<C: Copy>(cells: &[Cell<C>], frame: Frame, full: u16) -> (u64, u64)
+    ensures finished { result.0 ≡ total frame.area frame.area (at_level full) cells.now }
+    ensures levels { result.1 ≡ total frame.area frame.area level_of cells.now }
 {
-    tally_cells(cells, whole(frame), full)
+    tally_cells(cells, frame.whole(), full)
 }

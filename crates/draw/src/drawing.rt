@@ -1,210 +1,160 @@
 // A canvas from its opening to its closing.
-use crate::answers::{show_answer, show_cells, show_refusal, show_rows};
-use crate::boards::Board;
-use crate::commands::{Command, Kind, Line, Role};
-use crate::kinds::{Drawn, lay_given};
+use crate::answers::{Numbers, Sides};
+use crate::boards::{Board, Given};
+use crate::commands::{Command, Line, Opening};
+use crate::failures::Failure;
+use crate::kinds::{Drawn, Laying, lay_given};
 use crate::pictures::save_picture;
-use crate::stating::state;
-use anyhow::anyhow;
+use anyhow::{anyhow, bail};
 use canvas::{Canvas, check};
-use cells::{Cell, Rectangle, Refusal};
+use cells::{Cell, Rectangle};
+use raster::no_cover;
 
 // What 65,536 colours of 255 bytes take.
 const MOST_BYTES: usize = 16_711_680;
 
-// How many positions a rectangle has.
-fn positions(area: Rectangle) -> u64 {
-    let wide = area.right.saturating_sub(area.left) as u64;
-    let high = area.bottom.saturating_sub(area.top) as u64;
-    wide * high
+// How many bytes a row of a window takes, and how many the window.
+fn window_bytes<C: Drawn>(window: Rectangle) -> (usize, usize) {
+    let row = (window.columns() as usize).saturating_mul(C::BYTES);
+    (row, row.saturating_mul(window.rows() as usize))
 }
 
-// Memory for cells: as many as asked for, or as the rectangle needs, at most 65,536.
-pub(crate) fn memory<C: Drawn>(
-    rt: &HostRuntime,
-    board: &Board,
-    area: Rectangle,
-    room: Option<u64>,
-) -> anyhow::Result<Vec<Cell<C>>> {
-    let count = match room {
-        Some(room) => room,
-        None => positions(area).min(65536),
-    };
-    let cell = Cell {
-        colour: C::of(board.colour),
-        level: 0,
-    };
-    let Ok(mut cells) = Vec::with_capacity(rt.alloc(), count as usize) else {
-        return Err(anyhow!("there is no memory for so many cells"));
-    };
-    for _ in 0..count {
-        cells.push(cell)?;
+impl Opening {
+    // Memory for cells: as many as asked for, or as the rectangle needs, at most 65,536.
+    fn memory<C: Drawn>(self, rt: &HostRuntime, colour: C) -> anyhow::Result<Vec<Cell<C>>> {
+        let needed = u64::from(self.area.columns()) * u64::from(self.area.rows());
+        let count = self.room.unwrap_or(needed.min(65536)) as usize;
+        let Ok(cells) = vec![in rt.alloc(); Cell { colour, level: 0 }; count] else {
+            bail!("there is no memory for so many cells");
+        };
+        Ok(cells)
     }
-    Ok(cells)
 }
 
-// The line of a check or of an open.
-pub(crate) fn show_check<C: Drawn>(
-    rt: &HostRuntime,
-    board: &Board,
-    words: &str,
+// Prints how many cells a canvas on a rectangle has, if it can be opened on this memory.
+fn show_check<C: Drawn>(
+    board: &Board<'_>,
     name: &str,
     area: Rectangle,
     memory: &[Cell<C>],
-) -> anyhow::Result<()> {
-    match check(&board.plan, area, memory) {
-        Ok(cells) => show_cells(rt, name, area, cells),
-        Err(refusal) => show_refusal(rt, words, refusal),
-    }
+) -> Result<(), Failure> {
+    let cells = check(&board.plan, area, memory)?;
+    println!(board.rt; "{name} {}: {cells} cells", Sides(area))?;
+    Ok(())
 }
 
-// Lays an object with the sources that were given for it, prints the answer, and gives how many cells were raised.
-fn lay<C: Drawn>(
-    rt: &HostRuntime,
-    board: &mut Board,
-    canvas: &mut Canvas<'_, C>,
-    words: &str,
-    k: u32,
-    window: Rectangle,
-) -> anyhow::Result<u64> {
-    let mask = board.settle(rt.alloc(), Role::Mask, k)?;
-    let image = board.settle(rt.alloc(), Role::Image, k)?;
-    let (Some(mask), Some(image)) = (
-        board.masks.as_slice().get(mask),
-        board.images.as_slice().get(image),
-    ) else {
-        return Err(anyhow!("a source is lost"));
-    };
-    match lay_given(canvas, k, window, mask, image) {
-        Ok((raised, passed)) => {
-            let Rectangle {
-                left,
-                top,
-                right,
-                bottom,
-            } = window;
-            println!(rt;
-                "lay {k} {left} {top} {right} {bottom}: raised {raised}, passed {passed}"
-            )?;
-            Ok(raised)
-        }
-        Err(refusal) => {
-            show_refusal(rt, words, refusal)?;
-            Ok(0)
-        }
-    }
+// Asks whether a canvas can be opened.
+pub(crate) fn checked<C: Drawn>(
+    board: &Board<'_>,
+    opening: Opening,
+    colour: C,
+) -> Result<(), Failure> {
+    let cells = opening.memory(board.rt, colour)?;
+    show_check(board, "check", opening.area, cells.as_slice())
 }
 
-// Wipes a window, prints the answer, and gives the sum of the former levels.
-fn wipe<C: Drawn>(
-    rt: &HostRuntime,
-    board: &Board,
-    canvas: &mut Canvas<'_, C>,
-    words: &str,
-    window: Rectangle,
-) -> anyhow::Result<u64> {
-    match canvas.wipe(window, C::of(board.colour)) {
-        Ok(levels) => {
-            show_answer(rt, "wipe", window, "levels", levels)?;
-            Ok(levels)
-        }
-        Err(refusal) => {
-            show_refusal(rt, words, refusal)?;
-            Ok(0)
-        }
-    }
-}
-
-// What a show came to: refused, or the number of finished cells and the buffer.
+// A canvas that is open, and what its lays and its wipes reported, added up.
 #[derive(Drop)]
-enum Shown {
-    Refused(Refusal),
-    Filled(u64, Vec<u8>),
+struct Drawing<'b, 'r, 'c, C> {
+    board: &'b mut Board<'r>,
+    canvas: Canvas<'c, C>,
+    raised: u64,
+    wiped: u64,
 }
 
-// How many bytes a row of a window takes.
-fn row_bytes<C: Drawn>(window: Rectangle) -> usize {
-    let wide = window.right.saturating_sub(window.left) as usize;
-    wide.saturating_mul(C::byte_count())
-}
-
-// How many bytes a window takes.
-fn window_bytes<C: Drawn>(window: Rectangle) -> usize {
-    let high = window.bottom.saturating_sub(window.top) as usize;
-    row_bytes::<C>(window).saturating_mul(high)
-}
-
-// Shows a window in a new buffer: as long as asked for, or as the window needs, at most what a whole canvas can.
-fn fill_buffer<C: Drawn>(
-    rt: &HostRuntime,
-    canvas: &mut Canvas<'_, C>,
-    window: Rectangle,
-    length: Option<u64>,
-) -> anyhow::Result<Shown> {
-    let length = match length {
-        Some(length) => length as usize,
-        None => window_bytes::<C>(window).min(MOST_BYTES),
-    };
-    let mut buffer = match vec![in rt.alloc(); 0u8; length] {
-        Ok(buffer) => buffer,
-        Err(_) => return Err(anyhow!("there is no memory for so long a buffer")),
-    };
-    match canvas.show(window, buffer.as_mut_slice()) {
-        Ok(finished) => Ok(Shown::Filled(finished, buffer)),
-        Err(refusal) => Ok(Shown::Refused(refusal)),
-    }
-}
-
-// Shows a window and prints its bytes.
-fn show<C: Drawn>(
-    rt: &HostRuntime,
-    canvas: &mut Canvas<'_, C>,
-    words: &str,
-    window: Rectangle,
-    length: Option<u64>,
-) -> anyhow::Result<()> {
-    match fill_buffer(rt, canvas, window, length)? {
-        Shown::Refused(refusal) => show_refusal(rt, words, refusal),
-        Shown::Filled(finished, buffer) => {
-            show_answer(rt, "show", window, "finished", finished)?;
-            let bytes = buffer
-                .as_slice()
-                .get(0..window_bytes::<C>(window))
-                .unwrap_or(&[]);
-            show_rows(rt, bytes, row_bytes::<C>(window))
+impl<C: Drawn> Drawing<'_, '_, '_, C> {
+    // One line, but for the canvas's closing.
+    fn step(&mut self, line: &Line) -> Result<(), Failure> {
+        match &line.command {
+            Command::Lay(object, window) => self.lay(*object, *window),
+            Command::Wipe(window) => self.wipe(*window),
+            Command::Show(window, length) => self.show(*window, *length),
+            Command::Save(window, file) => {
+                self.save(line.words.as_str(), *window, file.as_str())
+            }
+            Command::Check(opening) => {
+                let colour = C::from(self.board.colour);
+                checked(self.board, *opening, colour)
+            }
+            Command::Open(_) => Err(anyhow!("a canvas is open already").into()),
+            command => self.board.state(command),
         }
     }
-}
 
-// Shows a window and saves it as a picture.
-fn save<C: Drawn>(
-    rt: &HostRuntime,
-    canvas: &mut Canvas<'_, C>,
-    words: &str,
-    window: Rectangle,
-    file: &str,
-    kind: Kind,
-) -> anyhow::Result<()> {
-    match fill_buffer(rt, canvas, window, None)? {
-        Shown::Refused(refusal) => show_refusal(rt, words, refusal),
-        Shown::Filled(finished, buffer) => {
-            let wide = window.right.saturating_sub(window.left);
-            let high = window.bottom.saturating_sub(window.top);
-            save_picture(rt, file, kind, wide, high, buffer.as_slice())?;
-            println!(rt; "{words}: finished {finished}")?;
-            Ok(())
+    // Lays an object with the sources that were given for it.
+    fn lay(&mut self, object: u32, window: Rectangle) -> Result<(), Failure> {
+        let no_mask = Given::nothing(no_cover());
+        let board = &*self.board;
+        let no_image = Given::nothing(board.colour);
+        let mask = board.masks.get(&object).unwrap_or(&no_mask);
+        let image = board.images.get(&object).unwrap_or(&no_image);
+        let laying = Laying {
+            canvas: &mut self.canvas,
+            object,
+            window,
+        };
+        let (raised, passed) = lay_given(laying, mask, image)?;
+        self.raised = self.raised.saturating_add(raised);
+        let sides = Sides(window);
+        println!(self.board.rt; "lay {object} {sides}: raised {raised}, passed {passed}")?;
+        Ok(())
+    }
+
+    // Wipes a window.
+    fn wipe(&mut self, window: Rectangle) -> Result<(), Failure> {
+        let levels = self.canvas.wipe(window, C::from(self.board.colour))?;
+        self.wiped = self.wiped.saturating_add(levels);
+        println!(self.board.rt; "wipe {}: levels {levels}", Sides(window))?;
+        Ok(())
+    }
+
+    // Shows a window in a new buffer: as long as asked for, or as the window needs, at most what a whole canvas can.
+    fn filled(
+        &mut self,
+        window: Rectangle,
+        length: Option<u64>,
+    ) -> Result<(u64, Vec<u8>), Failure> {
+        let length = match length {
+            Some(length) => length as usize,
+            None => window_bytes::<C>(window).1.min(MOST_BYTES),
+        };
+        let Ok(mut buffer) = vec![in self.board.rt.alloc(); 0u8; length] else {
+            return Err(anyhow!("there is no memory for so long a buffer").into());
+        };
+        let finished = self.canvas.show(window, buffer.as_mut_slice())?;
+        Ok((finished, buffer))
+    }
+
+    // Shows a window and prints its bytes, a line for each row.
+    fn show(&mut self, window: Rectangle, length: Option<u64>) -> Result<(), Failure> {
+        let (finished, buffer) = self.filled(window, length)?;
+        println!(self.board.rt; "show {}: finished {finished}", Sides(window))?;
+        let (row, all) = window_bytes::<C>(window);
+        let bytes = buffer.as_slice().get(..all).unwrap_or(&[]);
+        for numbers in bytes.chunks(row.max(1)) {
+            println!(self.board.rt; "{}", Numbers(numbers))?;
         }
+        Ok(())
+    }
+
+    // Shows a window and saves it as a picture.
+    fn save(&mut self, words: &str, window: Rectangle, file: &str) -> Result<(), Failure> {
+        let (finished, buffer) = self.filled(window, None)?;
+        let kind = self.board.colour.kind();
+        save_picture(self.board.rt, file, kind, window, buffer.as_slice())?;
+        println!(self.board.rt; "{words}: finished {finished}")?;
+        Ok(())
     }
 }
 
-// What a session came to.
+// Prints what a canvas came to.
 fn show_end(
     rt: &HostRuntime,
     counts: (u64, u64),
     raised: u64,
     wiped: u64,
     is_balanced: bool,
-) -> anyhow::Result<()> {
+) -> Result<(), Failure> {
     let (finished, levels) = counts;
     let verdict = if is_balanced {
         "balanced"
@@ -217,87 +167,38 @@ fn show_end(
     Ok(())
 }
 
-// What the lays and the wipes of a canvas reported, added up.
-#[derive(Drop)]
-struct Totals {
-    raised: u64,
-    wiped: u64,
-}
-
-// Prints what check answers.
-pub(crate) fn checked<C: Drawn>(
-    rt: &HostRuntime,
-    board: &Board,
-    line: &Line,
-    area: Rectangle,
-    room: Option<u64>,
-) -> anyhow::Result<()> {
-    let cells = memory::<C>(rt, board, area, room)?;
-    show_check(
-        rt,
-        board,
-        line.words.as_str(),
-        "check",
-        area,
-        cells.as_slice(),
-    )
-}
-
-// One line while a canvas is open, but for its closing.
-fn step<C: Drawn>(
-    rt: &HostRuntime,
-    board: &mut Board,
-    canvas: &mut Canvas<'_, C>,
-    line: &Line,
-    totals: &mut Totals,
-) -> anyhow::Result<()> {
-    let words = line.words.as_str();
-    match &line.command {
-        Command::Lay(k, window) => {
-            let cells = lay(rt, board, canvas, words, *k, *window)?;
-            totals.raised = totals.raised.saturating_add(cells);
-            Ok(())
-        }
-        Command::Wipe(window) => {
-            let levels = wipe(rt, board, canvas, words, *window)?;
-            totals.wiped = totals.wiped.saturating_add(levels);
-            Ok(())
-        }
-        Command::Show(window, length) => show(rt, canvas, words, *window, *length),
-        Command::Save(window, file) => save(rt, canvas, words, *window, file.as_str(), board.kind),
-        Command::Check(area, room) => checked::<C>(rt, board, line, *area, *room),
-        Command::Open(_, _) => Err(anyhow!("a canvas is open already")),
-        _ => state(rt, board, line),
-    }
-}
-
-// Opens a canvas and plays the lines from `first` on until it is closed. Answers the place after the last of them.
+// Opens a canvas, and plays the lines after that up to its closing. Where it is refused the canvas is 0 by 0.
 pub(crate) fn draw<C: Drawn>(
-    rt: &HostRuntime,
-    board: &mut Board,
-    lines: &[Line],
-    first: usize,
-    area: Rectangle,
-    cells: &mut [Cell<C>],
-) -> Result<usize, (u64, anyhow::Error)> {
-    let mut canvas = Canvas::open(board.plan, area, cells, C::of(board.colour));
-    let mut totals = Totals {
+    board: &mut Board<'_>,
+    line: &Line,
+    opening: Opening,
+    colour: C,
+    steps: &[Line],
+) -> anyhow::Result<()> {
+    let rt = board.rt;
+    let mut cells = opening
+        .memory(rt, colour)
+        .map_err(|error| line.error(error))?;
+    line.end(
+        rt,
+        show_check(board, "open", opening.area, cells.as_slice()),
+    )?;
+    let canvas = Canvas::open(board.plan, opening.area, cells.as_mut_slice(), colour);
+    let mut drawing = Drawing {
+        board,
+        canvas,
         raised: 0,
         wiped: 0,
     };
-    for i in first..lines.len() {
-        let line = &lines[i];
-        if let Command::Close = line.command {
-            let is_balanced = canvas.balance(totals.raised, totals.wiped);
-            let counts = canvas.close();
-            return match show_end(rt, counts, totals.raised, totals.wiped, is_balanced) {
-                Ok(()) => Ok(i.saturating_add(1)),
-                Err(error) => Err((line.number, error)),
-            };
+    for step in steps {
+        if let Command::Close = step.command {
+            // The canvas is taken out here: a method that takes apart a drawing, which holds a `&mut`, gets no proof.
+            let (raised, wiped) = (drawing.raised, drawing.wiped);
+            let is_balanced = drawing.canvas.balance(raised, wiped);
+            let counts = drawing.canvas.close();
+            return step.end(rt, show_end(rt, counts, raised, wiped, is_balanced));
         }
-        if let Err(error) = step(rt, board, &mut canvas, line, &mut totals) {
-            return Err((line.number, error));
-        }
+        step.end(rt, drawing.step(step))?;
     }
-    Ok(lines.len())
+    Ok(())
 }

@@ -1,63 +1,51 @@
 // The lines of a session, up to one that cannot be understood.
-use crate::commands::{Command, Kind, Line};
-use crate::parsing::command;
-use anyhow::anyhow;
-use std::alloc::Global;
+use crate::colours::Kind;
+use crate::commands::{Command, Line, at_line};
+use crate::words::Words;
+use anyhow::ensure;
+use std::alloc::{AllocError, Global};
 
-// A session: the lines that can be understood, and the line that cannot and why, if there is one.
+// A session: the lines that can be understood, and the error of the one after them, if there is one.
 #[derive(Drop)]
 pub struct Session {
     pub lines: Vec<Line>,
-    pub fault: Option<(u64, anyhow::Error)>,
+    pub end: anyhow::Result<()>,
 }
 
 // What stands before a comment.
 fn without_comment(line: &str) -> &str {
-    match line.split_once('#') {
-        Some((text, _)) => text,
-        None => line,
-    }
+    line.split_once('#').map_or(line, |(text, _)| text)
 }
 
 // One line's words, parted by single blanks.
-fn joined(heap: Global, text: &str) -> anyhow::Result<String> {
-    let mut words = String::new(heap);
-    for word in text.split_whitespace() {
-        if !words.is_empty() {
-            words.push_str(" ")?;
-        }
-        words.push_str(word)?;
-    }
-    Ok(words)
+fn joined(alloc: Global, text: &str) -> Result<String, AllocError> {
+    let words: Vec<&str> = text.split_whitespace().collect(alloc)?;
+    words.as_slice().join(alloc, " ")
 }
 
 // One line as a command, or `None` for an empty one.
-fn one_line(heap: Global, text: &str, kind: Kind) -> anyhow::Result<Option<Command>> {
-    let mut words = text.split_whitespace();
+fn one_line(alloc: Global, text: &str, kind: Kind) -> anyhow::Result<Option<Command>> {
+    let mut words = Words::new(alloc, text, kind);
     let Some(name) = words.next() else {
         return Ok(None);
     };
-    let found = command(heap, &mut words, name, kind)?;
-    if words.next().is_some() {
-        return Err(anyhow!("the line goes on after its end"));
-    }
-    Ok(Some(found))
+    let command = words.command(name)?;
+    ensure!(words.next().is_none(), "the line goes on after its end");
+    Ok(Some(command))
 }
 
 // The lines of a session's text.
-pub(crate) fn read_lines(heap: Global, text: &str) -> anyhow::Result<Session> {
-    let mut lines = Vec::new(heap);
+pub(crate) fn read_lines(alloc: Global, text: &str) -> anyhow::Result<Session> {
+    let mut lines = Vec::new(alloc);
     let mut kind = Kind::Grey;
-    let mut number: u64 = 0;
-    for line in text.lines() {
-        number = number.saturating_add(1);
-        let line = without_comment(line);
-        match one_line(heap, line, kind) {
+    for (number, text) in (1..).zip(text.lines()) {
+        let text = without_comment(text);
+        match one_line(alloc, text, kind) {
             Ok(Some(command)) => {
                 if let Command::Colours(named) = &command {
                     kind = *named;
                 }
-                let words = joined(heap, line)?;
+                let words = joined(alloc, text)?;
                 lines.push(Line {
                     number,
                     words,
@@ -66,12 +54,10 @@ pub(crate) fn read_lines(heap: Global, text: &str) -> anyhow::Result<Session> {
             }
             Ok(None) => {}
             Err(error) => {
-                return Ok(Session {
-                    lines,
-                    fault: Some((number, error)),
-                });
+                let end = Err(at_line(number, error));
+                return Ok(Session { lines, end });
             }
         }
     }
-    Ok(Session { lines, fault: None })
+    Ok(Session { lines, end: Ok(()) })
 }

@@ -3,18 +3,19 @@
 
 mod answers;
 mod boards;
+mod colours;
 mod commands;
 mod drawing;
+mod failures;
 mod halves;
 mod kinds;
 mod lines;
-mod parsing;
 mod pictures;
 mod playing;
 mod samples;
-mod stating;
+mod words;
 
-use anyhow::anyhow;
+use anyhow::bail;
 use lines::{Session, read_lines};
 use playing::play;
 use std::io::Read;
@@ -22,10 +23,9 @@ use std::{env, fs};
 
 // The text of a session: `-` is standard input.
 fn read_session(rt: &HostRuntime) -> anyhow::Result<String> {
-    let mut args = env::args(rt)?;
-    let _ = args.next();
+    let mut args = env::args(rt)?.skip(1);
     let (Some(path), None) = (args.next(), args.next()) else {
-        return Err(anyhow!("usage: draw SESSION"));
+        bail!("usage: draw SESSION");
     };
     if path.as_str() == "-" {
         let mut text = String::new(rt.alloc());
@@ -35,21 +35,11 @@ fn read_session(rt: &HostRuntime) -> anyhow::Result<String> {
     Ok(fs::read_to_string(rt, path.as_str())?)
 }
 
-// The error of a line, with its number.
-fn at_line(number: u64, error: anyhow::Error) -> anyhow::Error {
-    anyhow!("line {number}: {error}")
-}
-
 fn run(rt: &HostRuntime) -> anyhow::Result<()> {
     let text = read_session(rt)?;
-    let Session { lines, fault } = read_lines(rt.alloc(), text.as_str())?;
-    if let Err((number, error)) = play(rt, lines.as_slice()) {
-        return Err(at_line(number, error));
-    }
-    match fault {
-        Some((number, error)) => Err(at_line(number, error)),
-        None => Ok(()),
-    }
+    let Session { lines, end } = read_lines(rt.alloc(), text.as_str())?;
+    play(rt, lines.as_slice())?;
+    end
 }
 
 fn main(rt: HostRuntime) -> anyhow::Result<()> {

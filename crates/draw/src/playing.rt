@@ -1,88 +1,46 @@
 // A whole session.
 use crate::boards::Board;
-use crate::commands::{Command, Kind, Line};
-use crate::drawing::{checked, draw, memory, show_check};
-use crate::kinds::Drawn;
-use crate::stating::state;
-use cells::Rectangle;
-use raster::{Grey, Paper, Tint};
+use crate::colours::AnyColour;
+use crate::commands::{Command, Line};
+use crate::drawing::{checked, draw};
+use crate::failures::Failure;
 
-// Opens a canvas and plays the lines up to its close. Answers the place of the first line after them.
-fn opened<C: Drawn>(
-    rt: &HostRuntime,
-    board: &mut Board,
-    lines: &[Line],
-    i: usize,
-    area: Rectangle,
-    room: Option<u64>,
-) -> Result<usize, (u64, anyhow::Error)> {
-    let Some(line) = lines.get(i) else {
-        return Ok(lines.len());
-    };
-    let number = line.number;
-    let mut cells = match memory::<C>(rt, board, area, room) {
-        Ok(cells) => cells,
-        Err(error) => return Err((number, error)),
-    };
-    if let Err(error) = show_check(
-        rt,
-        board,
-        line.words.as_str(),
-        "open",
-        area,
-        cells.as_slice(),
-    ) {
-        return Err((number, error));
+// One line outside a canvas, but for the opening of one. The kind of colour is known only when a line is played, so what
+// is generic over the colours is called for each of the three kinds: a closure or a `dyn` would take one type, and no
+// generic function.
+fn outside(board: &mut Board<'_>, command: &Command) -> Result<(), Failure> {
+    match command {
+        Command::Check(opening) => match board.colour {
+            AnyColour::Grey(grey) => checked(board, *opening, grey),
+            AnyColour::Tint(tint) => checked(board, *opening, tint),
+            AnyColour::Paper(paper) => checked(board, *opening, paper),
+        },
+        _ => board.state(command),
     }
-    draw(
-        rt,
-        board,
-        lines,
-        i.saturating_add(1),
-        area,
-        cells.as_mut_slice(),
-    )
 }
 
-// One line outside a canvas: answers the place of the next line.
-fn outside(
-    rt: &HostRuntime,
-    board: &mut Board,
-    lines: &[Line],
-    i: usize,
-) -> Result<usize, (u64, anyhow::Error)> {
-    let Some(line) = lines.get(i) else {
-        return Ok(lines.len());
-    };
-    let done = match &line.command {
-        Command::Open(area, room) => {
-            return match board.kind {
-                Kind::Grey => opened::<Grey>(rt, board, lines, i, *area, *room),
-                Kind::Tint => opened::<Tint>(rt, board, lines, i, *area, *room),
-                Kind::Paper => opened::<Paper>(rt, board, lines, i, *area, *room),
+// Lines up to the closing of a canvas: first those outside it, then its opening, and then those within it, which are
+// drawn in the kind of colour that the opening finds.
+fn play_part(board: &mut Board<'_>, lines: &[Line]) -> anyhow::Result<()> {
+    for (i, line) in lines.iter().enumerate() {
+        if let Command::Open(opening) = line.command {
+            let (_, steps) = lines.split_at(i + 1);
+            return match board.colour {
+                AnyColour::Grey(grey) => draw(board, line, opening, grey, steps),
+                AnyColour::Tint(tint) => draw(board, line, opening, tint, steps),
+                AnyColour::Paper(paper) => draw(board, line, opening, paper, steps),
             };
         }
-        Command::Check(area, room) => match board.kind {
-            Kind::Grey => checked::<Grey>(rt, board, line, *area, *room),
-            Kind::Tint => checked::<Tint>(rt, board, line, *area, *room),
-            Kind::Paper => checked::<Paper>(rt, board, line, *area, *room),
-        },
-        _ => state(rt, board, line),
-    };
-    match done {
-        Ok(()) => Ok(i.saturating_add(1)),
-        Err(error) => Err((line.number, error)),
+        line.end(board.rt, outside(board, &line.command))?;
     }
+    Ok(())
 }
 
-// Plays the lines of a session. An error carries its line's number.
-pub(crate) fn play(rt: &HostRuntime, lines: &[Line]) -> Result<(), (u64, anyhow::Error)> {
-    let mut board = Board::new(rt.alloc());
-    let mut next: usize = 0;
-    for i in 0..lines.len() {
-        if i >= next {
-            next = outside(rt, &mut board, lines, i)?;
-        }
+// Plays the lines of a session. An error has its line's number.
+pub(crate) fn play(rt: &HostRuntime, lines: &[Line]) -> anyhow::Result<()> {
+    let mut board = Board::new(rt);
+    for part in lines.split_inclusive(|line| matches!(line.command, Command::Close)) {
+        play_part(&mut board, part)?;
     }
     Ok(())
 }

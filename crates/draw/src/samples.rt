@@ -1,142 +1,132 @@
-// Where the bytes of a source come from: a file, or digits in the line itself.
-use crate::commands::Form;
-use anyhow::anyhow;
+// The samples of sources, and where they come from: the line itself, digits in it, or a file.
+ghost use Rattle.std.specs.Prelude.{◌≤◌, length};
+
+use crate::failures::Failure;
+use anyhow::{bail, ensure};
+use raster::{Bits, Bytes, Cover, Shortage, Triples};
 use std::alloc::Global;
 use std::fs;
 
-// What a hexadecimal digit stands for.
-fn digit(byte: u8) -> anyhow::Result<u8> {
-    match byte {
-        b'0'..=b'9' => Ok(byte - b'0'),
-        b'a'..=b'f' => Ok(byte - b'a' + 10),
-        b'A'..=b'F' => Ok(byte - b'A' + 10),
-        _ => Err(anyhow!("a hexadecimal digit is expected")),
-    }
+// How samples lie in bytes: one or three bytes to a sample, or one bit, with rows filled up to whole bytes.
+#[derive(Clone, Copy, PartialEq, Eq)]
+pub enum Packing {
+    Bytes,
+    Bits,
+    Triples,
 }
 
-// The bytes that pairs of hexadecimal digits stand for.
-fn from_digits(heap: Global, digits: &[u8]) -> anyhow::Result<Vec<u8>> {
-    let mut bytes = Vec::new(heap);
-    let mut high = None;
-    for byte in digits {
-        let value = digit(*byte)?;
-        match high {
-            None => high = Some(value),
-            Some(first) => {
-                bytes.push((first << 4) | value)?;
-                high = None;
+// One sample for all of a source, or packed samples in bytes. `B` is the bytes, or what a line calls them.
+#[derive(Drop)]
+pub enum Samples<S, B> {
+    Uniform(S),
+    Packed(Packing, B),
+}
+
+impl<S: Copy> Samples<S, String> {
+    // The same with the bytes that the line names, which are refused where they are too few for a size.
+    pub(crate) fn loaded(
+        &self,
+        rt: &HostRuntime,
+        width: u16,
+        height: u16,
+    ) -> Result<Samples<S, Vec<u8>>, Failure> {
+        match self {
+            Samples::Uniform(sample) => Ok(Samples::Uniform(*sample)),
+            Samples::Packed(packing, name) => {
+                let mut bytes = load(rt, name.as_str())?;
+                let header = packing.header(bytes.as_slice(), width, height);
+                drop(bytes.drain(..header));
+                let _ = packing.check(bytes.as_slice(), width, height)?;
+                Ok(Samples::Packed(*packing, bytes))
             }
         }
     }
-    match high {
-        None => Ok(bytes),
-        Some(_) => Err(anyhow!("an even number of hexadecimal digits is expected")),
+}
+
+impl Packing {
+    // How many bytes a size needs; refused where there are fewer.
+    fn check(self, bytes: &[u8], width: u16, height: u16) -> Result<usize, Shortage> {
+        match self {
+            Packing::Bytes => Bytes::<Cover>::check(width, height, bytes),
+            Packing::Bits => Bits::check(width, height, bytes),
+            Packing::Triples => Triples::check(width, height, bytes),
+        }
+    }
+
+    // How many bytes the header of a Netpbm picture of such samples and of a size takes: 0 where there is none.
+    fn header(self, bytes: &[u8], width: u16, height: u16) -> usize
+        ensures bound { result ≤ length bytes.now }
+    {
+        let numbers = [u32::from(width), u32::from(height), 255];
+        let samples = match self {
+            Packing::Bytes => after_header(bytes, b"P5", &numbers),
+            Packing::Bits => after_header(bytes, b"P4", &numbers[..2]),
+            Packing::Triples => after_header(bytes, b"P6", &numbers),
+        };
+        samples.map_or(0, |samples| bytes.len().saturating_sub(samples.len()))
     }
 }
 
+// What stands after a header with these letters and these numbers, if there is one.
+fn after_header<'a>(bytes: &'a [u8], letters: &[u8], numbers: &[u32]) -> Option<&'a [u8]> {
+    let mut rest = bytes.strip_prefix(letters)?;
+    for number in numbers {
+        rest = after_number(rest, *number)?;
+    }
+    Some(rest)
+}
+
+// What stands after a number and the blank that ends it, if the bytes begin with that number. Blanks can stand before
+// it, and a comment anywhere, also between two digits.
+fn after_number(bytes: &[u8], wanted: u32) -> Option<&[u8]> {
+    let mut number: Option<u32> = None;
+    let mut rest = bytes.iter();
+    while let Some(byte) = rest.next() {
+        match *byte {
+            b'#' => {
+                let _ = rest.find(|byte| **byte == b'\n');
+            }
+            b'0'..=b'9' => {
+                let digit = u32::from(*byte - b'0');
+                let before = number.unwrap_or(0).saturating_mul(10);
+                number = Some(before.saturating_add(digit));
+            }
+            b' ' | b'\t' | b'\r' | b'\n' => match number {
+                Some(number) if number == wanted => return Some(rest.as_slice()),
+                Some(_) => return None,
+                None => {}
+            },
+            _ => return None,
+        }
+    }
+    None
+}
+
 // The bytes that a word names: `hex:` and digits, or a file.
-pub(crate) fn load(rt: &HostRuntime, name: &str) -> anyhow::Result<Vec<u8>> {
+fn load(rt: &HostRuntime, name: &str) -> anyhow::Result<Vec<u8>> {
     match name.strip_prefix("hex:") {
-        Some(digits) => from_digits(rt.alloc(), digits.as_bytes()),
+        Some(digits) => from_digits(rt.alloc(), digits),
         None => Ok(fs::read(rt, name)?),
     }
 }
 
-// How far the header of a Netpbm picture has been read: its numbers, and whether a number or a comment is being read.
-#[derive(Clone, Copy)]
-struct Header {
-    numbers: u8,
-    width: u32,
-    height: u32,
-    most: u32,
-    value: u32,
-    in_number: bool,
-    in_comment: bool,
-    broken: bool,
-}
-
-impl Header {
-    // The header with a number that has ended.
-    fn ended(self) -> Header {
-        let mut header = self;
-        match self.numbers {
-            0 => header.width = self.value,
-            1 => header.height = self.value,
-            _ => header.most = self.value,
-        }
-        header.numbers = self.numbers.saturating_add(1);
-        header.value = 0;
-        header.in_number = false;
-        header
-    }
-
-    // The header one byte further.
-    fn further(self, byte: u8) -> Header {
-        let mut header = self;
-        if self.in_comment {
-            header.in_comment = byte != b'\n';
-            return header;
-        }
-        match byte {
-            b'0'..=b'9' => {
-                let value = u32::from(byte - b'0');
-                header.value = self.value.saturating_mul(10).saturating_add(value);
-                header.in_number = true;
-                header
-            }
-            b' ' | b'\t' | b'\r' | b'\n' => { if self.in_number { self.ended() } else { header } }
-            b'#' => {
-                header.in_comment = true;
-                header
-            }
-            _ => {
-                header.broken = true;
-                header
-            }
-        }
+// What a hexadecimal digit stands for.
+fn digit(byte: u8) -> anyhow::Result<u8> {
+    match char::from(byte).to_digit(16) {
+        Some(value) => Ok(value as u8),
+        None => bail!("a hexadecimal digit is expected"),
     }
 }
 
-// Where the samples begin: after a Netpbm header of the form and the size, otherwise at the first byte.
-pub(crate) fn first_sample(bytes: &[u8], form: Form, width: u16, height: u16) -> usize {
-    let (magic, numbers) = match form {
-        Form::Bits => (b'4', 2),
-        Form::Triples => (b'6', 3),
-        _ => (b'5', 3),
-    };
-    match bytes {
-        [b'P', second, ..] => {
-            if *second != magic {
-                return 0;
-            }
-        }
-        _ => return 0,
-    }
-    let mut header = Header {
-        numbers: 0,
-        width: 0,
-        height: 0,
-        most: 255,
-        value: 0,
-        in_number: false,
-        in_comment: false,
-        broken: false,
-    };
-    for (i, byte) in bytes.iter().enumerate() {
-        if i >= 2 {
-            header = header.further(*byte);
-        }
-        if header.broken {
-            return 0;
-        }
-        if header.numbers >= numbers {
-            let same = header.width == u32::from(width) && header.height == u32::from(height);
-            return if same && header.most == 255 {
-                i.saturating_add(1)
-            } else {
-                0
-            };
-        }
-    }
-    0
+// The bytes that pairs of hexadecimal digits stand for.
+fn from_digits(alloc: Global, digits: &str) -> anyhow::Result<Vec<u8>> {
+    let values: Vec<u8> = digits.bytes().map(digit).try_collect(alloc)?;
+    ensure!(
+        values.len() % 2 == 0,
+        "an even number of hexadecimal digits is expected"
+    );
+    let bytes = values.as_slice().chunks(2).map(|pair| pair
+        .iter()
+        .fold(0, |byte, value| byte << 4 | *value));
+    Ok(bytes.collect(alloc)?)
 }

@@ -1,4 +1,5 @@
-// A plan as text: one field a line, under the format's names.
+// A plan as text: one field a line, under the format's names. How the lines are laid out is this program's own, so it is no
+// `Display` of the plan's structs; and one of a wrapper for each would write the same lines.
 use plan::headers::ObjectType;
 use plan::lawful::Plan;
 use plan::layout::{Layout, Object, Objects, Row};
@@ -9,11 +10,9 @@ use std::io;
 pub(crate) fn show_plan(rt: &HostRuntime, plan: &Plan) -> Result<(), io::Error> {
     show_header(rt, plan.header(), plan.count())?;
     show_resolution(rt, plan.resolution())?;
-    for k in 0..plan.count() {
-        if let Some(row) = plan.row(k) {
-            println!(rt; "lobj {k}")?;
-            show_row(rt, row)?;
-        }
+    for (k, row) in plan.rows().iter().enumerate() {
+        println!(rt; "lobj {k}")?;
+        show_row(rt, *row)?;
     }
     Ok(())
 }
@@ -61,9 +60,8 @@ fn show_resolution(rt: &HostRuntime, resolution: Resolution) -> Result<(), io::E
 }
 
 fn show_row(rt: &HostRuntime, row: Row) -> Result<(), io::Error> {
-    let Row { layout, objects } = row;
-    show_layout(rt, layout, objects.style())?;
-    match objects {
+    show_layout(rt, row)?;
+    match row.objects {
         Objects::Separate { mask, image } => {
             show_object(rt, mask, ObjectType::Mask)?;
             show_object(rt, image, ObjectType::Image)
@@ -74,14 +72,15 @@ fn show_row(rt: &HostRuntime, row: Row) -> Result<(), io::Error> {
     }
 }
 
-fn show_layout(rt: &HostRuntime, layout: Layout, style: u16) -> Result<(), io::Error> {
+fn show_layout(rt: &HostRuntime, row: Row) -> Result<(), io::Error> {
     let Layout {
         lobjid,
         lheight,
         lwidth,
         lvoff,
         lhoff,
-    } = layout;
+    } = row.layout;
+    let style = row.objects.style();
     println!(rt; "  LObjID {lobjid}")?;
     println!(rt; "  LHeight {lheight}")?;
     println!(rt; "  LWidth {lwidth}")?;

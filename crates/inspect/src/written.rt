@@ -1,19 +1,14 @@
 // Whether the plan, written, is the page box that it was read from.
-use anyhow::anyhow;
+use anyhow::bail;
 use plan::lawful::Plan;
 use reader::span::{Span, find_page};
 use roundtrip::trip::write_back;
 use writer::writing::MOST_BYTES;
 
-// Whether the bytes of a box are those at the front of a buffer.
-fn is_same(file: &[u8], span: Span, out: &[u8], size: usize) -> bool {
-    let Some(end) = span.offset.checked_add(span.size) else {
-        return false;
-    };
-    match (file.get(span.offset..end), out.get(0..size)) {
-        (Some(found), Some(written)) => found == written,
-        _ => false,
-    }
+// The bytes of a box of a file.
+fn box_bytes(file: &[u8], span: Span) -> Option<&[u8]> {
+    let end = span.offset.checked_add(span.size)?;
+    file.get(span.offset..end)
 }
 
 // Writes the plan, reads it back, and prints how its bytes compare with those of the file's page box.
@@ -26,12 +21,11 @@ pub(crate) fn show_written(
     let mut out = [0u8; MOST_BYTES];
     let mut again = Plan::blank();
     let Ok(size) = write_back(plan, &mut out, &mut again) else {
-        return Err(anyhow!("the buffer is too short"));
+        bail!("the buffer is too short");
     };
-    let same = match find_page(file, page) {
-        Some(span) => is_same(file, span, &out, size),
-        None => false,
-    };
+    let same = find_page(file, page)
+        .and_then(|span| box_bytes(file, span))
+        .is_some_and(|found| out.get(..size) == Some(found));
     let verdict = if same { "same as" } else { "other than" };
     println!(rt; "written {size} bytes, {verdict} the file's page box")?;
     Ok(())

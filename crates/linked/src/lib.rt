@@ -13,13 +13,10 @@ use plan::lawful::Plan;
 use reader::read::read;
 pub use sheets::{draw_grey, draw_paper, draw_tint};
 
-// 0 where the page with a number can be read from the bytes of a file, and otherwise the number of the refusal.
+// 0 where the page with a number can be read from the bytes of a file, and otherwise the number of the refusal: C has no Result.
 pub fn page_verdict(file: &[u8], number: u64) -> u8
     ensures value { result ≡ verdict (page_at number file.now) }
 {
     let mut plan = Plan::blank();
-    match read(file, number, &mut plan) {
-        Ok(()) => 0,
-        Err(refusal) => refusal.number(),
-    }
+    read(file, number, &mut plan).map_or_else(|refusal| refusal.number(), |()| 0)
 }

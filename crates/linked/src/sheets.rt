@@ -30,13 +30,14 @@ fn corner(wide: u16, high: u16) -> Rectangle
     Rectangle {
         left: 0,
         top: 0,
-        right: wide as u32,
-        bottom: high as u32,
+        right: u32::from(wide),
+        bottom: u32::from(high),
     }
 }
 
 // Draws the first `count` objects of a file's first page, all with the same mask and image, on a canvas at the page's
-// corner, and shows the canvas in a buffer that is long enough. Answers the number of finished cells.
+// corner, and shows the canvas in a buffer that is long enough. Answers the number of finished cells. The memory is an
+// array of its caller's, which knows the kind of colour: of an array of any kind it is not proved that its size fits.
 fn draw_sheet<C: Colour, M: Source<Sample = Cover>, I: Source<Sample = C>>(
     file: &[u8],
     wide: u16,
@@ -49,12 +50,14 @@ fn draw_sheet<C: Colour, M: Source<Sample = Cover>, I: Source<Sample = C>>(
     buffer: &mut [u8],
 ) -> u64
     ensures answer { result ≡ finished (drawn_sheet C.Colour.blended file.now wide high memory.old colour count (M.Source.meaning mask.now) (I.Source.meaning image.now)) }
-    ensures buffer { buffer.new ≡ shown_in C.Colour.shown C.Colour.size (drawn_sheet C.Colour.blended file.now wide high memory.old colour count (M.Source.meaning mask.now) (I.Source.meaning image.now)) (corner wide high) buffer.old }
+    ensures buffer { buffer.new ≡ shown_in C.Colour.shown C.Colour.BYTES (drawn_sheet C.Colour.blended file.now wide high memory.old colour count (M.Source.meaning mask.now) (I.Source.meaning image.now)) (corner wide high) buffer.old }
 {
     let plan = first_page(file);
     let area = corner(wide, high);
     draw_stack(plan, area, memory, colour, count, mask, image, buffer)
 }
+
+// One function for each kind of colour, since `linked_c` exports each under a name of C's, which has no generic functions.
 
 // Draws the first `count` objects on white, each with byte covers and one grey; answers the finished cells.
 pub fn draw_grey(

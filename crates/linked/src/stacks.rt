@@ -10,6 +10,9 @@ use cells::{Cell, Rectangle};
 use plan::lawful::Plan;
 use raster::{Colour, Cover, Source};
 
+// The parameters of these functions are those of the canvas's calls that they make; a struct of them would be taken apart at
+// once.
+
 // Lays the first `count` objects on a window, one after another, all with the same mask and image. A lay that is refused
 // changes nothing.
 fn lay_stack<C: Colour, M: Source<Sample = Cover>, I: Source<Sample = C>>(
@@ -41,7 +44,7 @@ pub fn draw_stack<C: Colour, M: Source<Sample = Cover>, I: Source<Sample = C>>(
 ) -> u64
     ensures answer { result ≡ finished (stacked C.Colour.blended (opened (page_of plan) area memory.old colour) count area (M.Source.meaning mask.now) (I.Source.meaning image.now)) }
     ensures cells { memory.new ≡ (stacked C.Colour.blended (opened (page_of plan) area memory.old colour) count area (M.Source.meaning mask.now) (I.Source.meaning image.now)).cells }
-    ensures buffer { buffer.new ≡ shown_in C.Colour.shown C.Colour.size (stacked C.Colour.blended (opened (page_of plan) area memory.old colour) count area (M.Source.meaning mask.now) (I.Source.meaning image.now)) area buffer.old }
+    ensures buffer { buffer.new ≡ shown_in C.Colour.shown C.Colour.BYTES (stacked C.Colour.blended (opened (page_of plan) area memory.old colour) count area (M.Source.meaning mask.now) (I.Source.meaning image.now)) area buffer.old }
 {
     let mut canvas = Canvas::open(plan, area, memory, colour);
     lay_stack(&mut canvas, count, area, mask, image);

@@ -1,4 +1,5 @@
 // The exports of the crate linked, with C's calling convention, for programs in C or Rust that link the library, and for the benchmarks.
+// Each stands here again, since a crate is a library or a static library.
 #![tactic(auto)]
 
 ghost use Rattle.std.specs.Prelude.{◌≡◌};
@@ -8,7 +9,7 @@ ghost use Rattle.canvas.specs.Views.{finished, shown_in};
 ghost use Rattle.linked.specs.Sheets.{corner, grey_sheet, tint_sheet, paper_sheet};
 ghost use Rattle.linked.specs.Verdict.{verdict};
 
-// 0 where the page with a number can be read from the bytes of a file, and otherwise the number of the refusal.
+// 0 where the page with a number can be read from the bytes of a file, and otherwise the number of the refusal: C has no Result.
 #[unsafe(no_mangle)]
 pub extern "C" fn page_verdict(file: &[u8], number: u64) -> u8
     ensures value { result ≡ verdict (page_at number file.now) }

@@ -1,9 +1,10 @@
 -- The fields of the four header boxes, each at its place in the contents, and the tests of size and values. Assumes nothing.
-use Rattle.std.specs.Prelude.{ℕ, Bool, cond, not, ◌||◌, List, [], ◌∷◌, length, ℤ, Some, None, ◌==◌, nat_lt, slice_index}
+use Rattle.std.specs.Prelude.{ℕ, Bool, cond, not, ◌||◌, List, [], ◌∷◌, length, ℤ, Some, None, Result, ◌==◌, nat_lt, slice_index}
 use Rattle.std.specs.Int.{w8}
 use Rattle.std.proofs.Common.{to_z}
 use Rattle.boxes.specs.Field.{field}
-use Rattle.boxes.specs.Tests.{Test}
+use Rattle.boxes.specs.Tests.{Test, judged}
+use Rattle.boxes.specs.declared.reason.Reason.{Reason}
 use Rattle.boxes.specs.declared.reason.Reason.TheVariants.{WrongSize, IllegalValue}
 use Rattle.plan.specs.Laws.{sized_page, whole_resolution}
 use Rattle.plan.specs.declared.headers.LayoutHead.{LayoutHead}
@@ -69,6 +70,10 @@ resolution_tests bs = (not (size_is 10 bs), WrongSize) ∷ (not (whole_resolutio
 abbrev pub style_of : ℕ → Style
 style_of n = cond (n == 0) styles.Separate (cond (n == 1) styles.Both (cond (n == 2) styles.Image styles.Mask))
 
+-- a number as a style, where it is one of the four
+abbrev pub style_judged : ℕ → Result Style Reason
+style_judged n = judged ((nat_lt 3 n, IllegalValue) ∷ []) (style_of n)
+
 -- the number of a style
 abbrev pub style_number : Objects → ℕ
 style_number (Separate mask image) = 0
@@ -95,6 +100,10 @@ layout_header_tests bs = (not (size_is 20 bs), WrongSize) ∷ (nat_lt 3 (field 2
 -- ohdr: ObjID, ObjType, NoCodestream, OVoff, OHoff, OFF, LEN, DR
 abbrev pub type_of : ℕ → ObjectType
 type_of n = cond (n == 0) types.Mask (cond (n == 1) types.Image types.Both)
+
+-- a number as a type, where it is one of the three
+abbrev pub type_judged : ℕ → Result ObjectType Reason
+type_judged n = judged ((nat_lt 2 n, IllegalValue) ∷ []) (type_of n)
 
 -- the number of an object's type
 abbrev pub type_number : ObjectType → ℕ

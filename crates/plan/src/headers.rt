@@ -2,7 +2,7 @@
 ghost use Rattle.std.specs.Prelude.{◌≡◌, true, IfOk};
 ghost use Rattle.boxes.specs.Tests.{judged};
 ghost use Rattle.plan.specs.Laws.{sized_page, whole_resolution};
-ghost use Rattle.plan.specs.Headers.{collection_of, page_head_of, page_header_tests, resolution_of, resolution_tests, layout_head_of, layout_header_tests, object_head_of, object_header_tests, style_of, type_of};
+ghost use Rattle.plan.specs.Headers.{collection_of, page_head_of, page_header_tests, resolution_of, resolution_tests, layout_head_of, layout_header_tests, object_head_of, object_header_tests, style_judged, type_judged};
 
 use crate::layout::{Layout, Object};
 use crate::page::{Collection, PageHeader, Resolution};
@@ -25,6 +25,23 @@ pub enum Style {
     Mask,
 }
 
+impl TryFrom<u16> for Style {
+    type Error = Reason;
+
+    ghost try_from_gives = { λ number answer. answer ≡ style_judged number };
+
+    // The style of a number, of which the format has four.
+    fn try_from(number: u16) -> Result<Style, Reason> {
+        match number {
+            0 => Ok(Style::Separate),
+            1 => Ok(Style::Both),
+            2 => Ok(Style::Image),
+            3 => Ok(Style::Mask),
+            _ => Err(Reason::IllegalValue),
+        }
+    }
+}
+
 // What a lhdr box says.
 #[derive(Clone, Copy)]
 pub struct LayoutHead {
@@ -35,9 +52,25 @@ pub struct LayoutHead {
 // What an object is: the values of ObjType from 0 to 2.
 #[derive(Clone, Copy, PartialEq, Eq)]
 pub enum ObjectType {
-    Mask,
-    Image,
-    Both,
+    Mask = 0,
+    Image = 1,
+    Both = 2,
+}
+
+impl TryFrom<u16> for ObjectType {
+    type Error = Reason;
+
+    ghost try_from_gives = { λ number answer. answer ≡ type_judged number };
+
+    // The type of a number, of which the format has three.
+    fn try_from(number: u16) -> Result<ObjectType, Reason> {
+        match number {
+            0 => Ok(ObjectType::Mask),
+            1 => Ok(ObjectType::Image),
+            2 => Ok(ObjectType::Both),
+            _ => Err(Reason::IllegalValue),
+        }
+    }
 }
 
 // What an ohdr box says.
@@ -52,33 +85,25 @@ pub fn read_page_header(contents: &[u8]) -> Result<PageHead, Reason>
     ensures answer { result ≡ judged (page_header_tests contents.now) (page_head_of contents.now) }
     ensures sized { IfOk result (λ h. sized_page h.header ≡ true) }
 {
-    let size = contents.len();
-    if size != 16 && size != 30 {
-        return Err(Reason::WrongSize);
-    }
+    let collection = match contents.len() {
+        16 => None,
+        30 => Some(read_collection(contents)),
+        _ => return Err(Reason::WrongSize),
+    };
     let pheight = read32(contents, 4);
     let pwidth = read32(contents, 8);
     if pheight == 0 || pwidth == 0 {
         return Err(Reason::IllegalValue);
     }
-    let collection = if size == 30 {
-        Some(read_collection(contents))
-    } else {
-        None
-    };
-    let pageid = read16(contents, 0);
-    let or = read16(contents, 12);
-    let pcolor = read16(contents, 14);
-    let header = PageHeader {
-        pageid,
-        pheight,
-        pwidth,
-        or,
-        pcolor,
-        collection,
-    };
     Ok(PageHead {
-        header,
+        header: PageHeader {
+            pageid: read16(contents, 0),
+            pheight,
+            pwidth,
+            or: read16(contents, 12),
+            pcolor: read16(contents, 14),
+            collection,
+        },
         nlobj: read16(contents, 2),
     })
 }
@@ -109,15 +134,13 @@ pub fn read_resolution(contents: &[u8]) -> Result<Resolution, Reason>
     if vrdn == 0 || vrdd == 0 || hrdn == 0 || hrdd == 0 {
         return Err(Reason::IllegalValue);
     }
-    let vrde = read8(contents, 8).cast_signed();
-    let hrde = read8(contents, 9).cast_signed();
     Ok(Resolution {
         vrdn,
         vrdd,
         hrdn,
         hrdd,
-        vrde,
-        hrde,
+        vrde: read8(contents, 8).cast_signed(),
+        hrde: read8(contents, 9).cast_signed(),
     })
 }
 
@@ -128,37 +151,17 @@ pub fn read_layout_header(contents: &[u8]) -> Result<LayoutHead, Reason>
     if contents.len() != 20 {
         return Err(Reason::WrongSize);
     }
-    let style = read16(contents, 18);
-    if style > 3 {
-        return Err(Reason::IllegalValue);
-    }
-    let lobjid = read16(contents, 0);
-    let lheight = read32(contents, 2);
-    let lwidth = read32(contents, 6);
-    let lvoff = read32(contents, 10);
-    let lhoff = read32(contents, 14);
-    let layout = Layout {
-        lobjid,
-        lheight,
-        lwidth,
-        lvoff,
-        lhoff,
-    };
+    let style = Style::try_from(read16(contents, 18))?;
     Ok(LayoutHead {
-        layout,
-        style: style_of(style),
+        layout: Layout {
+            lobjid: read16(contents, 0),
+            lheight: read32(contents, 2),
+            lwidth: read32(contents, 6),
+            lvoff: read32(contents, 10),
+            lhoff: read32(contents, 14),
+        },
+        style,
     })
-}
-
-fn style_of(number: u16) -> Style
-    ensures value { result ≡ style_of number }
-{
-    match number {
-        0 => Style::Separate,
-        1 => Style::Both,
-        2 => Style::Image,
-        _ => Style::Mask,
-    }
 }
 
 // The contents of an ohdr box.
@@ -168,38 +171,22 @@ pub fn read_object_header(contents: &[u8]) -> Result<ObjectHead, Reason>
     if contents.len() != 28 {
         return Err(Reason::WrongSize);
     }
-    let objtype = read16(contents, 2);
-    let flag = read16(contents, 4);
-    if objtype > 2 || flag > 1 {
-        return Err(Reason::IllegalValue);
-    }
-    let objid = read16(contents, 0);
-    let ovoff = read32(contents, 6);
-    let ohoff = read32(contents, 10);
-    let off = read64(contents, 14);
-    let len = read32(contents, 22);
-    let dr = read16(contents, 26);
-    let object = Object {
-        objid,
-        nocodestream: flag == 1,
-        ovoff,
-        ohoff,
-        off,
-        len,
-        dr,
+    let objtype = ObjectType::try_from(read16(contents, 2))?;
+    let nocodestream = match read16(contents, 4) {
+        0 => false,
+        1 => true,
+        _ => return Err(Reason::IllegalValue),
     };
     Ok(ObjectHead {
-        objtype: type_of(objtype),
-        object,
+        objtype,
+        object: Object {
+            objid: read16(contents, 0),
+            nocodestream,
+            ovoff: read32(contents, 6),
+            ohoff: read32(contents, 10),
+            off: read64(contents, 14),
+            len: read32(contents, 22),
+            dr: read16(contents, 26),
+        },
     })
-}
-
-fn type_of(number: u16) -> ObjectType
-    ensures value { result ≡ type_of number }
-{
-    match number {
-        0 => ObjectType::Mask,
-        1 => ObjectType::Image,
-        _ => ObjectType::Both,
-    }
 }

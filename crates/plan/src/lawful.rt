@@ -6,6 +6,7 @@ ghost use Rattle.plan.specs.Laws.{sized_page, whole_resolution, BlankFrom, disti
 use crate::layout::Row;
 use crate::page::{PageHeader, Resolution};
 
+// The rows are an array with their count beside it: no heap is used here, and the library's vector of a fixed size is not `Copy`, as a plan is.
 #[derive(Clone, Copy)]
 pub struct Plan {
     pub header: PageHeader,

@@ -1,7 +1,7 @@
 // A layout object: where it lies on the page, and its objects, under the format's own names.
 
 // The layout object header but for Style, which the objects say.
-#[derive(Clone, Copy, PartialEq, Eq)]
+#[derive(Clone, Copy, PartialEq, Eq, Default)]
 pub struct Layout {
     pub lobjid: u16,
     pub lheight: u32,
@@ -11,7 +11,7 @@ pub struct Layout {
 }
 
 // An object header but for ObjType, which the place of the object in a row says.
-#[derive(Clone, Copy, PartialEq, Eq)]
+#[derive(Clone, Copy, PartialEq, Eq, Default)]
 pub struct Object {
     pub objid: u16,
     pub nocodestream: bool,

@@ -15,27 +15,24 @@ impl Plan {
     pub fn blank() -> Plan
         ensures plan { page_of result ≡ blank_page }
     {
-        let header = PageHeader {
-            pageid: 0,
-            pheight: 1,
-            pwidth: 1,
-            or: 0,
-            pcolor: 0,
-            collection: None,
-        };
-        let resolution = Resolution {
-            vrdn: 1,
-            vrdd: 1,
-            hrdn: 1,
-            hrdd: 1,
-            vrde: 0,
-            hrde: 0,
-        };
-        let rows = [blank_row(); 64];
         Plan {
-            header,
-            resolution,
-            rows,
+            header: PageHeader {
+                pageid: 0,
+                pheight: 1,
+                pwidth: 1,
+                or: 0,
+                pcolor: 0,
+                collection: None,
+            },
+            resolution: Resolution {
+                vrdn: 1,
+                vrdd: 1,
+                hrdn: 1,
+                hrdd: 1,
+                vrde: 0,
+                hrde: 0,
+            },
+            rows: [blank_row(); 64],
             count: 0,
         }
     }
@@ -63,15 +60,18 @@ impl Plan {
         self.count
     }
 
+    // The rows, one for each layout object in the order of the file.
+    pub fn rows(&self) -> &[Row]
+        ensures value { result.now ≡ (page_of self.now).rows }
+    {
+        &self.rows[..self.count]
+    }
+
     // The row of a layout object, numbered from 0, or `None` where there is none.
     pub fn row(&self, number: usize) -> Option<Row>
         ensures value { result ≡ slice_get (page_of self.now).rows number }
     {
-        if number < self.count {
-            Some(self.rows[number])
-        } else {
-            None
-        }
+        self.rows().get(number).copied()
     }
 }
 
@@ -80,27 +80,13 @@ pub fn blank_row() -> Row
     ensures value { result ≡ blank_row }
 {
     Row {
-        layout: Layout {
-            lobjid: 0,
-            lheight: 0,
-            lwidth: 0,
-            lvoff: 0,
-            lhoff: 0,
-        },
-        objects: Objects::Mask(Object {
-            objid: 0,
-            nocodestream: false,
-            ovoff: 0,
-            ohoff: 0,
-            off: 0,
-            len: 0,
-            dr: 0,
-        }),
+        layout: Layout::default(),
+        objects: Objects::Mask(Object::default()),
     }
 }
 
 impl Objects {
-    // The number of the Style.
+    // The number of the Style. A match, since `as` takes no enum whose variants have fields.
     pub fn style(self) -> u16
         ensures value { result ≡ style_number self }
     {
@@ -118,10 +104,6 @@ impl ObjectType {
     pub fn number(self) -> u16
         ensures value { result ≡ type_number self }
     {
-        match self {
-            ObjectType::Mask => 0,
-            ObjectType::Image => 1,
-            ObjectType::Both => 2,
-        }
+        self as u16
     }
 }

@@ -5,7 +5,7 @@ ghost use Rattle.raster.specs.Meanings.{OneMeaning, arrived};
 use crate::sources::{Look, Source};
 
 // Stands over any source, with its size: the rows from `from` on are not there yet.
-#[derive(Clone, Copy)]
+#[derive(Clone, Copy, Drop)]
 pub struct Arrival<S> {
     pub source: S,
     pub from: u64,
@@ -54,14 +54,8 @@ impl<S: Source> Source for Arrival<S> {
 
     fn look(&self, column: u64, row: u64) -> Look<S::Sample> {
         match self.source.look(column, row) {
-            Look::Found(sample) => {
-                if row < self.from {
-                    Look::Found(sample)
-                } else {
-                    Look::Missing
-                }
-            }
-            other => other,
+            Look::Found(_) if row >= self.from => Look::Missing,
+            look => look,
         }
     }
 }

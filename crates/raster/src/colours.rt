@@ -15,15 +15,10 @@ pub trait Colour: Copy {
     // The bytes that a colour shows as.
     ghost shown: { Self → List ℕ };
 
-    // How many bytes each colour shows as.
-    ghost size: { ℕ };
+    // How many bytes each colour shows as: the constant below, as the laws and the contracts speak of it.
+    ghost BYTES: { ℕ };
 
-    // How many bytes each colour shows as.
     const BYTES: usize;
-
-    // The same number: its clause ties the constant to `size`, by which the laws and the contracts speak of it.
-    fn byte_count() -> usize
-        ensures value { result ≡ size };
 
     // This colour with `above` laid over it.
     fn blend(self, above: Self, cover: Cover) -> Self
@@ -36,6 +31,8 @@ pub trait Colour: Copy {
         ensures buffer { buffer.new ≡ put_buffer buffer.old at (shown self) }
         ensures bytes { AllBytes (shown self) };
 
+    // The laws stand one by one, so that what a kind breaks is named. Each kind proves its own.
+
     // Cover 0 gives below.
     ghost keeps: { (below above : Self) → blended below above no_cover ≡ below };
 
@@ -43,11 +40,11 @@ pub trait Colour: Copy {
     ghost hides: { (below above : Self) → blended below above full_cover ≡ above };
 
     // Each colour shows as exactly that many bytes.
-    ghost sized: { (colour : Self) → length (shown colour) ≡ size };
+    ghost sized: { (colour : Self) → length (shown colour) ≡ BYTES };
 
     // Different colours show differently.
     ghost distinct: { (one other : Self) → shown one ≡ shown other → one ≡ other };
 
     // A colour shows as 1 to 255 bytes.
-    ghost bounded: { (1 ≤ size) × (size ≤ 255) };
+    ghost bounded: { (1 ≤ BYTES) × (BYTES ≤ 255) };
 }

@@ -38,7 +38,7 @@ impl Colour for Grey {
 
     ghost shown = { grey_shown };
 
-    ghost size = { 1 };
+    ghost BYTES = { 1 };
 
     const BYTES: usize = 1;
 
@@ -51,10 +51,6 @@ impl Colour for Grey {
     ghost distinct = { Prim.search rules };
 
     ghost bounded = { Prim.search rules };
-
-    fn byte_count() -> usize {
-        Self::BYTES
-    }
 
     fn blend(self, above: Grey, cover: Cover) -> Grey
         ensures value { result ≡ grey_blended self above cover }

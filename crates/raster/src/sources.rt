@@ -1,6 +1,6 @@
 // What a source of samples is.
 ghost use Rattle.std.specs.Prelude.{◌≡◌, ◌+◌, ◌*◌, ◌^◌, ◌<◌, ◌≤◌};
-ghost use Rattle.raster.specs.Meanings.{Meaning, looked, most};
+ghost use Rattle.raster.specs.Meanings.{Meaning, is_place, looked, most};
 
 // What a source answers at a place.
 #[derive(Clone, Copy, PartialEq, Eq, Debug)]
@@ -30,6 +30,13 @@ pub trait Source {
     fn height(&self) -> u16
         ensures value { result ≡ (meaning self.now).height }
         ensures bound { result ≤ most };
+
+    // Whether there is such a place.
+    fn is_place(&self, column: u64, row: u64) -> bool
+        ensures value { result ≡ is_place (meaning self.now) column row }
+    {
+        column < u64::from(self.width()) && row < u64::from(self.height())
+    }
 
     // What is at a place, for any column and row.
     fn look(&self, column: u64, row: u64) -> Look<Self::Sample>

@@ -22,7 +22,7 @@ impl Colour for Tint {
 
     ghost shown = { tint_shown };
 
-    ghost size = { 3 };
+    ghost BYTES = { 3 };
 
     const BYTES: usize = 3;
 
@@ -35,10 +35,6 @@ impl Colour for Tint {
     ghost distinct = { Prim.search rules };
 
     ghost bounded = { Prim.search rules };
-
-    fn byte_count() -> usize {
-        Self::BYTES
-    }
 
     fn blend(self, above: Tint, cover: Cover) -> Tint {
         Tint {

@@ -1,9 +1,11 @@
 // The touch of one layout object at a page position.
-ghost use Rattle.std.specs.Prelude.{◌≡◌, ◌+◌, ◌-◌};
-ghost use Rattle.raster.specs.Touches.{Alike, looked_from, touch_at, within};
+ghost use Rattle.std.specs.Prelude.{◌≡◌, ℕ};
+ghost use Rattle.raster.specs.declared.touches.Touch.{Touch};
+ghost use Rattle.raster.specs.Touches.{Alike, touch_at};
 
 use crate::covers::Cover;
-use crate::sources::{Look, Source};
+use crate::layers::Layer;
+use crate::sources::Source;
 
 // Where a layout object stands on the page, in page grid units: its rectangle, and where its mask and its image begin
 // within it.
@@ -36,27 +38,40 @@ pub enum Touch<C> {
     Dab(C, Cover),
 }
 
-// Whether a page position lies in the layout rectangle.
-fn in_rectangle(place: Placement, column: u64, row: u64) -> bool
-    ensures value { result ≡ within place column row }
-{
-    let left = place.lhoff as u64;
-    let top = place.lvoff as u64;
-    left <= column
-        && column < left + place.lwidth as u64
-        && top <= row
-        && row < top + place.lheight as u64
+// What touches the positions of a page: a layout object with its mask and its image.
+pub trait Touching {
+    // The kind of colour that it lays.
+    type Colour: Copy;
+
+    // What it is on one row.
+    type Row: TouchingRow<Colour = Self::Colour> + Copy;
+
+    // The touch at each column and row.
+    ghost touch: { Self → ℕ → ℕ → Touch Self.Colour };
+
+    // What is the same along a row is worked out here, once.
+    fn on_row(&self, row: u32) -> Self::Row
+        ensures number { Self.Row.number result ≡ row }
+        ensures touch { Self.Row.touch result ≡ touch self.now };
 }
 
-// What a source with its corner at (`left`, `top`) has at a page position.
-fn look_from<S: Source>(source: &S, left: u64, top: u64, column: u64, row: u64) -> Look<S::Sample>
-    ensures answer { result ≡ looked_from (S.Source.meaning source.now) left top column row }
-{
-    if left <= column && top <= row {
-        source.look(column - left, row - top)
-    } else {
-        Look::Outside
-    }
+// What touches the positions of a page, on one of its rows.
+pub trait TouchingRow {
+    // The kind of colour that it lays.
+    type Colour: Copy;
+
+    // Which row it is, and the touch at each column and row.
+    ghost number: { Self → ℕ };
+
+    ghost touch: { Self → ℕ → ℕ → Touch Self.Colour };
+
+    // The row's number.
+    fn number(&self) -> u32
+        ensures { result ≡ number self.now };
+
+    // The touch at a column of the row.
+    fn touched(&self, column: u32) -> Touch<Self::Colour>
+        ensures { result ≡ touch self.now column (number self.now) };
 }
 
 // The touch of a layout object at a page position: it depends on what mask and image mean, and on nothing else of them.
@@ -70,47 +85,6 @@ pub fn touched<C: Copy, M: Source<Sample = Cover>, I: Source<Sample = C>>(
     ensures answer { result ≡ touch_at place (M.Source.meaning mask.now) (I.Source.meaning image.now) column row }
     ensures alike { Alike place (M.Source.meaning mask.now) (I.Source.meaning image.now) column row result }
 {
-    touch_of(place, mask, image, column as u64, row as u64)
-}
-
-// The touch, at a position in the numbers that its sums need.
-fn touch_of<C: Copy, M: Source<Sample = Cover>, I: Source<Sample = C>>(
-    place: Placement,
-    mask: &M,
-    image: &I,
-    column: u64,
-    row: u64,
-) -> Touch<C>
-    ensures answer { result ≡ touch_at place (M.Source.meaning mask.now) (I.Source.meaning image.now) column row }
-{
-    if !in_rectangle(place, column, row) {
-        return Touch::Bare;
-    }
-    let left = place.lhoff as u64;
-    let top = place.lvoff as u64;
-    let cover = match look_from(
-        mask,
-        left + place.mask_across as u64,
-        top + place.mask_down as u64,
-        column,
-        row,
-    ) {
-        Look::Outside => return Touch::Bare,
-        Look::Missing => return Touch::MaskMissing,
-        Look::Found(cover) => cover,
-    };
-    if cover.amount == 0 {
-        return Touch::Bare;
-    }
-    match look_from(
-        image,
-        left + place.image_across as u64,
-        top + place.image_down as u64,
-        column,
-        row,
-    ) {
-        Look::Outside => Touch::Bare,
-        Look::Missing => Touch::ImageMissing,
-        Look::Found(colour) => Touch::Dab(colour, cover),
-    }
+    let layer = Layer { place, mask, image };
+    layer.on_row(row).touched(column)
 }

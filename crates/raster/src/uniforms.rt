@@ -26,7 +26,7 @@ impl<S: Copy> Source for Uniform<S> {
     }
 
     fn look(&self, column: u64, row: u64) -> Look<S> {
-        if column < self.width as u64 && row < self.height as u64 {
+        if self.is_place(column, row) {
             Look::Found(self.sample)
         } else {
             Look::Outside

@@ -1,36 +1,41 @@
 -- The laws of every read. Assumes nothing.
-use Rattle.std.proofs.Common.{◌≡◌, ℕ, ◌+◌, ◌<◌, Bool, true, false, not, eqb, List, length, Some, None, Ok, Err, Option, Result, sym, refl, ap, ◌∙◌, arith, eqb-true}
+use Rattle.std.proofs.Common.{◌≡◌, ℕ, ◌+◌, ◌<◌, true, false, eqb, List, length, Some, None, Ok, Err, Option, Result, sym, refl, ap, ◌∙◌, arith, eqb-true}
+use Rattle.std.proofs.lemmas.Bool.{not-false}
 use Rattle.boxes.proofs.Frames.{judged-ok}
 use Rattle.boxes.specs.Table.{table, same_kind}
-use Rattle.boxes.specs.Tests.{judged}
+use Rattle.boxes.specs.Tests.{Test, judged}
 use Rattle.boxes.specs.declared.fault.Fault.{Fault}
-use Rattle.boxes.specs.declared.reason.Reason.{Reason}
+use Rattle.boxes.specs.declared.table.Kind.{Kind}
 use Rattle.boxes.specs.declared.table.Kind.TheVariants as kinds
 use Rattle.boxes.specs.declared.table.Place.{Place}
 use Rattle.boxes.specs.declared.table.Place.TheVariants as places
 use Rattle.plan.specs.Headers.{layout_head_of, object_head_of, object_header_tests, page_head_of, page_header_tests, resolution_of, resolution_tests}
 use Rattle.plan.specs.declared.headers.PageHead.{PageHead}
 use Rattle.reader.proofs.Offsets.{FaultsBetween, Bounded, faults_cond, faults_located, faults-superbox, faults_then, faults-walked}
+use Rattle.reader.proofs.Walks.{located-ok, then_ok}
 use Rattle.reader.specs.Laws.{FaultsLieInTheFile, RowsAreCounted}
+use Rattle.reader.specs.Lone.{lone_rules}
 use Rattle.reader.specs.Objects.{head_tests, layout_rules, layout_state, nothing_held, object_rules, with_head}
 use Rattle.reader.specs.Pages.{FileState, PageState, file_rules, file_state, miscounted, new_page, page_rules, page_state, resolution_rules}
 use Rattle.reader.specs.Reading.{file_page, found_page}
-use Rattle.reader.specs.Walk.{lacking, located, superbox, then, walked, end_tests}
+use Rattle.reader.specs.Walk.{lacking, superbox, walked, end_tests}
 use Rattle.reader.specs.declared.read.Refusal.TheVariants.{Faulty}
 
 -- a box that has contents or not begins before it ends
 header_first : (at body : ℕ) (bs : List ℕ) → at < body → at < body + length bs
 header_first at body bs h = omega arith
 
+-- a superbox with one header box
+pub lone_bounded : {A : Type 0} (place : Place) (kind : Kind) (tests : List ℕ → List Test) (made : List ℕ → A) → Bounded (lone_rules place kind tests made)
+lone_bounded place kind tests made s k at body bs h =
+    faults_cond at (body + length bs) (same_kind k kind) _ _
+    (faults_located place at (body + length bs) (judged (tests bs) (Some (made bs))) (header_first at body bs h)) tt
+
 pub object-bounded : Bounded object_rules
-object-bounded s k at body bs h =
-    faults_cond at (body + length bs) (same_kind k kinds.ObjectHeader) _ _
-    (faults_located places.Object at (body + length bs) (judged (object_header_tests bs) (Some (object_head_of bs))) (header_first at body bs h)) tt
+object-bounded = lone_bounded places.Object kinds.ObjectHeader object_header_tests object_head_of
 
 pub resolution_bounded : Bounded resolution_rules
-resolution_bounded s k at body bs h =
-    faults_cond at (body + length bs) (same_kind k kinds.DisplayResolution) _ _
-    (faults_located places.Resolution at (body + length bs) (judged (resolution_tests bs) (Some (resolution_of bs))) (header_first at body bs h)) tt
+resolution_bounded = lone_bounded places.Resolution kinds.DisplayResolution resolution_tests resolution_of
 
 pub layout_bounded : Bounded layout_rules
 layout_bounded s k at body bs h =
@@ -56,15 +61,12 @@ file_bounded s k at body bs h =
     faults_cond at (body + length bs) (same_kind k kinds.Page) _ _
     (faults_then at (body + length bs) (superbox page_rules at body bs new_page) _ (faults-superbox page_rules page-bounded at body bs new_page h) (λ o _. tt)) tt
 
-clash : {A B : Type 0} {a : A} {e : B} → ◌≡◌ {A = Result A B} (Ok a) (Err e) → ⊥
-clash p = let z : ◌≡◌ {A = ℕ} 0 1 = cc in omega arith
-
 file_fault : (n : ℕ) (w : Result FileState Fault) (f : Fault) → FaultsBetween 0 (0 + n) w → file_page w ≡ Err (Faulty f) → f.offset < n
 file_fault n (Ok s) f p e = go s.found e
   where
     go : (o : Option _) → found_page o ≡ Err (Faulty f) → f.offset < n
-    go None q = let z : ◌≡◌ {A = ℕ} 0 1 = cc in absurd (omega arith)
-    go (Some x) q = absurd (clash q)
+    go None q = absurd cc
+    go (Some x) q = absurd cc
 file_fault n (Err g) f p e = let same : g ≡ f = cc in let o = ap (λ x. x.offset) same in omega arith
 
 pub faults_lie_in_the_file : FaultsLieInTheFile
@@ -72,24 +74,12 @@ faults_lie_in_the_file file number f e =
     let start = file_state (Some number) None in
     file_fault (length file) (walked file_rules (length file) 0 true file start) f (faults-walked file_rules file_bounded (length file) 0 true file start) e
 
-located-ok : {A : Type 0} (p : Place) (at : ℕ) (r : Result A Reason) (a : A) → located p at r ≡ Ok a → r ≡ Ok a
-located-ok p at (Ok x) a e = let same : x ≡ a = cc in ap Ok same
-located-ok p at (Err x) a e = let z : ◌≡◌ {A = ℕ} 0 1 = cc in absurd (omega arith)
-
-pub then_ok : {A B : Type 0} (r : Result A Fault) (f : A → Result B Fault) (b : B) → then r f ≡ Ok b → (a : A) × (r ≡ Ok a) × (f a ≡ Ok b)
-then_ok (Ok a) f b e = (a, refl, e)
-then_ok (Err x) f b e = let z : ◌≡◌ {A = ℕ} 0 1 = cc in absurd (omega arith)
-
 -- a page with no page header lacks a box
 whole_page_lem : (head : Option PageHead) (s : PageState) → s.head ≡ head → lacking page_rules s table ≡ false → miscounted s.head s.rows ≡ false → (h : PageHead) × (s.head ≡ Some h) × (h.nlobj ≡ length s.rows)
-whole_page_lem None s is e f = let e' = rw is at e in let z : ◌≡◌ {A = ℕ} 0 1 = cc in absurd (omega arith)
+whole_page_lem None s is e f = let e' = rw is at e in absurd cc
 whole_page_lem (Some h) s is e f =
     let f' = rw is at f in
     (h, is, eqb-true h.nlobj (length s.rows) (not-false (eqb h.nlobj (length s.rows)) f'))
-  where
-    not-false : (b : Bool) → not b ≡ false → b ≡ true
-    not-false true q = refl
-    not-false false q = sym q
 
 pub rows_are_counted : RowsAreCounted
 rows_are_counted at body bs s e =

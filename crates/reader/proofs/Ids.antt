@@ -1,54 +1,31 @@
 -- Identifiers among rows. Assumes nothing.
-use Rattle.std.proofs.Common.{◌≡◌, ℕ, ◌+◌, ◌-◌, ◌<◌, ◌≤◌, Bool, true, false, cond, not, ◌&&◌, ◌||◌, eqb, List, [], ◌∷◌, ◌++◌, length, get_or, take, drop, set, replicate, sym, refl, ap, ◌∙◌, add-one, arith, drop-cons, lt-ltb, eq-eqb, ne_eqb}
-use borrow.Author.Tests.{eqb-false}
+use Rattle.std.proofs.Common.{◌≡◌, ℕ, ◌+◌, ◌-◌, ◌<◌, true, false, cond, not, ◌&&◌, ◌||◌, List, [], ◌∷◌, ◌++◌, length, take, drop, set, replicate, sym, refl, ap, ◌∙◌, arith, lt-ltb, ne_eqb}
+use Rattle.std.proofs.lemmas.Bool.{and_parts, eqb-false, ne_eqb, not-true, or_from, or_parts}
+use Rattle.std.specs.List.{list_any}
 use Rattle.plan.specs.Laws.{named, has_id, distinct_ids, blank_row, BlankFrom}
 use Rattle.plan.specs.declared.layout.Row.{Row}
 use Rattle.reader.specs.Pages.{pushed}
-use Rattle.std.proofs.lemmas.List.{drop_all, drop-set-lt, drop-drop, drop-replicate, take_more_set}
+use Rattle.std.proofs.lemmas.List.{drop-set-lt, drop-drop, drop-replicate, take_more_set}
 
-module _ (id : ℕ) (rows : List Row) (i : ℕ) where
-  has_id-next : (d : Row) → i < length rows → has_id id (drop i rows) ≡ (named id (get_or rows i d) || has_id id (drop (i + 1) rows))
-  has_id-next d h = rw (add-one, drop-cons rows i d h)
-
-  pub has_id-here : (d : Row) → i < length rows → (get_or rows i d).layout.lobjid ≡ id → has_id id (drop i rows) ≡ true
-  has_id-here d h e = has_id-next d h ∙ ap (λ b. b || has_id id (drop (i + 1) rows)) (eq-eqb _ id e)
-
-  pub has_id-not-here : (d : Row) → i < length rows → ((get_or rows i d).layout.lobjid ≡ id → ⊥) → has_id id (drop (i + 1) rows) ≡ has_id id (drop i rows)
-  has_id-not-here d h e = sym (has_id-next d h ∙ ap (λ b. b || has_id id (drop (i + 1) rows)) (ne_eqb _ id e))
-
-  pub has_id-past : length rows ≤ i → has_id id (drop i rows) ≡ false
-  has_id-past h = ap (has_id id) (drop_all i rows h)
-
--- a test by its two values
-or-false : (a b : Bool) → (a || b) ≡ false → (a ≡ false) × (b ≡ false)
-or-false true b e = let z : ◌≡◌ {A = ℕ} 0 1 = cc in absurd (omega arith)
-or-false false b e = (refl, e)
-
-and-true : (a b : Bool) → (a && b) ≡ true → (a ≡ true) × (b ≡ true)
-and-true true b e = (refl, e)
-and-true false b e = let z : ◌≡◌ {A = ℕ} 0 1 = cc in absurd (omega arith)
-
-eqb_swap : (a b : ℕ) → eqb a b ≡ false → eqb b a ≡ false
-eqb_swap a b e = ne_eqb b a (λ same. eqb-false a b e (sym same))
+-- whether some row has an identifier, by a test of each
+pub any_named : (id : ℕ) (rows : List Row) → list_any (named id) rows ≡ has_id id rows
+any_named id [] = refl
+any_named id (row ∷ rows) = ap (λ b. named id row || b) (any_named id rows)
 
 -- an identifier among one row more
 has_id-push : (id : ℕ) (xs : List Row) (row : Row) → has_id id xs ≡ false → named id row ≡ false → has_id id (xs ++ (row ∷ [])) ≡ false
-has_id-push id [] row e f = ap (λ b. b || false) f
+has_id-push id [] row e f = or_from (named id row) false f refl
 has_id-push id (x ∷ xs) row e f =
-    let p = or-false (named id x) (has_id id xs) e in
-    ap (λ b. b || has_id id (xs ++ (row ∷ []))) p.0 ∙ has_id-push id xs row p.1 f
-
-not-true : (a : Bool) → not a ≡ true → a ≡ false
-not-true true e = sym e
-not-true false e = refl
+    let p = or_parts (named id x) (has_id id xs) e in
+    or_from (named id x) (has_id id (xs ++ (row ∷ []))) p.0 (has_id-push id xs row p.1 f)
 
 -- a row with a new identifier leaves the identifiers distinct
 pub distinct_push : (xs : List Row) (row : Row) → distinct_ids xs ≡ true → has_id row.layout.lobjid xs ≡ false → distinct_ids (xs ++ (row ∷ [])) ≡ true
 distinct_push [] row e f = refl
 distinct_push (x ∷ xs) row e f =
-    let p = and-true (not (has_id x.layout.lobjid xs)) (distinct_ids xs) e in
-    let q = or-false (named row.layout.lobjid x) (has_id row.layout.lobjid xs) f in
-    let new = has_id-push x.layout.lobjid xs row (not-true _ p.0) (eqb_swap x.layout.lobjid row.layout.lobjid q.0) in
+    let p = and_parts (not (has_id x.layout.lobjid xs)) (distinct_ids xs) e in
+    let q = or_parts (named row.layout.lobjid x) (has_id row.layout.lobjid xs) f in
+    let new = has_id-push x.layout.lobjid xs row (not-true _ p.0) (ne_eqb row.layout.lobjid x.layout.lobjid (λ same. eqb-false x.layout.lobjid row.layout.lobjid q.0 (sym same))) in
     ap (λ b. not b && distinct_ids (xs ++ (row ∷ []))) new ∙ distinct_push xs row p.1 q.1
 
 -- the array of rows after one row more

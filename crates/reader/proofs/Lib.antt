@@ -1,3 +1,4 @@
+pub mod Earlier
 pub mod Granted
 pub mod Ids
 pub mod Offsets

@@ -1,6 +1,7 @@
 -- A skipped box after the end of a file. Assumes nothing.
-use Rattle.std.proofs.Common.{◌≡◌, ℕ, zero, suc, ◌+◌, ◌-◌, ◌<◌, ◌≤◌, Bool, true, false, not, ◌&&◌, eqb, List, [], ◌∷◌, ◌++◌, length, take, drop, Some, None, Ok, Err, Option, Result, sym, refl, ap, ◌∙◌, arith, length-drop}
+use Rattle.std.proofs.Common.{◌≡◌, ℕ, zero, suc, ◌+◌, ◌-◌, ◌<◌, ◌≤◌, Bool, true, false, not, eqb, List, [], ◌∷◌, ◌++◌, length, take, drop, Some, None, Ok, Err, Option, Result, sym, refl, ap, ◌∙◌, arith, length-drop}
 use Rattle.std.proofs.lemmas.List.{drop_all, take-append-le, drop-append-le}
+use Rattle.std.proofs.lemmas.Bool.{and_parts, not-true}
 use Rattle.boxes.proofs.Frames.{framed-append, framed-within, judged-ok}
 use Rattle.boxes.specs.Frame.{framed, frame_tests, frame_made, type_code, header_size, short_length, box_size}
 use Rattle.boxes.specs.Table.{entry_of}
@@ -8,8 +9,7 @@ use Rattle.boxes.specs.declared.fault.Fault.{Fault}
 use Rattle.boxes.specs.declared.frame.Frame.{Frame}
 use Rattle.boxes.specs.declared.reason.Reason.{Reason}
 use Rattle.boxes.specs.declared.table.Entry.{Entry}
-use Rattle.reader.proofs.Granted.{then_ok}
-use Rattle.reader.proofs.Walks.{met-within, walk-empty, walk-on}
+use Rattle.reader.proofs.Walks.{then_ok, met-within, walk-empty, walk-on}
 use Rattle.reader.specs.Laws.{say_their_length, SkippedBox, SkippedBoxesChangeNothing}
 use Rattle.reader.specs.Pages.{FileState, file_rules, file_state}
 use Rattle.reader.specs.Reading.{file_page, page_at}
@@ -41,8 +41,8 @@ module _ {S : Type 0} (r : Rules S) where
     where
       sized-size : (f : Frame) (l : Result S Fault) (m : ℕ × S) → sized r f l ≡ Ok m → f.size ≡ m.0
       sized-size f (Ok t) m q = let p : ◌≡◌ {A = ℕ × S} (f.size, t) m = cc in ap (λ x. x.0) p
-      sized-size f (Err x) m q = let z : ◌≡◌ {A = ℕ} 0 1 = cc in absurd (omega arith)
-  framed_box-append at first xs ys s top (Err x) m is says e = let z : ◌≡◌ {A = ℕ} 0 1 = cc in absurd (omega arith)
+      sized-size f (Err x) m q = absurd cc
+  framed_box-append at first xs ys s top (Err x) m is says e = absurd cc
 
 -- a skipped box alone leaves the state as it is
 skip_alone : (at : ℕ) (first : Bool) (ys : List ℕ) (s : FileState) → SkippedBox ys → walked file_rules (length ys) at first ys s ≡ Ok s
@@ -56,10 +56,6 @@ skip_alone at first ys s k =
     let empty : length (drop f.size ys) ≡ 0 = ap length (drop_all f.size ys past) in
     walk-on file_rules at first ys s (f.size, s) some one ∙ walk-empty file_rules (at + f.size) false (drop f.size ys) s empty
 
-and-true : (a b : Bool) → (not a && b) ≡ true → (a ≡ false) × (b ≡ true)
-and-true true b e = let z : ◌≡◌ {A = ℕ} 0 1 = cc in absurd (omega arith)
-and-true false b e = (refl, e)
-
 walk_append : (n at : ℕ) (first : Bool) (xs ys : List ℕ) (s t : FileState) → walked file_rules n at first xs s ≡ Ok t → length xs ≤ n → say_their_length n xs ≡ true → SkippedBox ys → walked file_rules (length (xs ++ ys)) at first (xs ++ ys) s ≡ Ok t
 unfolding walked say_their_length
 walk_append zero at first [] ys s t e h c k = skip_alone at first ys s k ∙ e
@@ -67,8 +63,9 @@ walk_append zero at first (x ∷ xs) ys s t e h c k = absurd (omega arith)
 walk_append (suc n) at first [] ys s t e h c k = skip_alone at first ys s k ∙ e
 walk_append (suc n) at first (x ∷ xs) ys s t e h c k =
     let m = then_ok (met file_rules at first (x ∷ xs) s) _ t e in
-    let closed = and-true (eqb (short_length (x ∷ xs)) 0) _ c in
-    let again = framed_box-append file_rules at first (x ∷ xs) ys s true (framed true (x ∷ xs)) m.0 refl closed.0 m.1 in
+    let closed = and_parts (not (eqb (short_length (x ∷ xs)) 0)) _ c in
+    let says = not-true _ closed.0 in
+    let again = framed_box-append file_rules at first (x ∷ xs) ys s true (framed true (x ∷ xs)) m.0 refl says m.1 in
     let w = met-within file_rules at first (x ∷ xs) s m.0 m.1 in
     let rest = drop-append-le m.0.0 (x ∷ xs) ys w.1 in
     let fewer = length-drop m.0.0 (x ∷ xs) in

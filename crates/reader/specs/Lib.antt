@@ -1,7 +1,9 @@
 pub mod Drafts
 pub mod Laws
+pub mod Lone
 pub mod Objects
 pub mod Pages
 pub mod Reading
+pub mod Searches
 pub mod Spans
 pub mod Walk

@@ -1,5 +1,5 @@
 -- Objects, and layout objects that hold them. Assumes nothing.
-use Rattle.std.specs.Prelude.{ℕ, cond, not, ◌&&◌, List, [], ◌∷◌, ◌++◌, is_some, Some, None, Ok, Option, Result}
+use Rattle.std.specs.Prelude.{ℕ, Bool, true, cond, not, ◌&&◌, List, [], ◌∷◌, ◌++◌, is_some, Some, None, Ok, Option, Result}
 use Rattle.boxes.specs.Table.{same_kind}
 use Rattle.boxes.specs.Tests.{Test}
 use Rattle.boxes.specs.declared.fault.Fault.{Fault}
@@ -17,20 +17,14 @@ use Rattle.plan.specs.declared.headers.Style.TheVariants as styles
 use Rattle.plan.specs.declared.layout.Objects.{Objects}
 use Rattle.plan.specs.declared.layout.Objects.TheVariants as objects
 use Rattle.plan.specs.declared.layout.Row.{Row}
+use Rattle.reader.specs.Lone.{lone_rules}
 use Rattle.reader.specs.Walk.{Rules, then, tested, superbox, once}
 use Rattle.reader.specs.declared.layout_object.Held.{Held}
 use Rattle.reader.specs.declared.layout_object.Held.TheVariants.{Empty, One, Two}
 
--- An object: what its ohdr box says. A type that stands elsewhere is refused before it is taken, so it changes nothing here.
-abbrev pub object_taken : Option ObjectHead → Kind → ℕ → ℕ → List ℕ → Result (Option ObjectHead) Fault
-object_taken s k at body bs =
-    cond (same_kind k kinds.ObjectHeader) (tested places.Object at (object_header_tests bs) (Some (object_head_of bs))) (Ok s)
-
-abbrev pub object_count : Option ObjectHead → Kind → ℕ
-object_count s k = cond (same_kind k kinds.ObjectHeader) (once s) 0
-
+-- An object: what its ohdr box says.
 abbrev pub object_rules : Rules (Option ObjectHead)
-object_rules = record { place = places.Object; count = object_count; taken = object_taken; closing = λ s. [] }
+object_rules = lone_rules places.Object kinds.ObjectHeader object_header_tests object_head_of
 
 -- A layout object: the rows of the layout objects before it, what its lhdr box says, and its objects in file order.
 pub record LayoutState : Type 0 where
@@ -91,6 +85,11 @@ abbrev pub held_count : Held → ℕ
 held_count Empty = 0
 held_count (One a) = 1
 held_count (Two a b) = 2
+
+-- a header that has come has an identifier that no earlier row has
+abbrev pub new_among : List Row → Option LayoutHead → Bool
+new_among earlier None = true
+new_among earlier (Some h) = not (has_id h.layout.lobjid earlier)
 
 -- the tests of a lhdr box, in their order
 abbrev pub head_tests : LayoutState → List ℕ → List Test

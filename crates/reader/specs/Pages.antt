@@ -1,5 +1,5 @@
 -- Resolutions, pages, and the file that holds them. Assumes nothing.
-use Rattle.std.specs.Prelude.{ℕ, zero, suc, Bool, true, false, cond, not, ◌&&◌, List, [], ◌∷◌, ◌++◌, length, Some, None, Ok, Option, Result, ◌==◌, nat_lt}
+use Rattle.std.specs.Prelude.{ℕ, Bool, false, cond, not, ◌&&◌, List, [], ◌∷◌, ◌++◌, length, Some, None, Ok, Option, Result, ◌==◌, nat_lt}
 use Rattle.boxes.specs.Table.{same_kind}
 use Rattle.boxes.specs.Tests.{Test}
 use Rattle.boxes.specs.declared.fault.Fault.{Fault}
@@ -13,19 +13,14 @@ use Rattle.plan.specs.Page.{Page}
 use Rattle.plan.specs.declared.headers.PageHead.{PageHead}
 use Rattle.plan.specs.declared.layout.Row.{Row}
 use Rattle.plan.specs.declared.page.Resolution.{Resolution}
+use Rattle.reader.specs.Lone.{lone_rules}
 use Rattle.reader.specs.Objects.{layout_state, layout_rules, nothing_held, row_of}
+use Rattle.reader.specs.Searches.{SearchState, search_state, sought}
 use Rattle.reader.specs.Walk.{Rules, then, tested, superbox, once}
 
 -- A res box: what its resd box says.
-abbrev pub resolution_taken : Option Resolution → Kind → ℕ → ℕ → List ℕ → Result (Option Resolution) Fault
-resolution_taken s k at body bs =
-    cond (same_kind k kinds.DisplayResolution) (tested places.Resolution at (resolution_tests bs) (Some (resolution_of bs))) (Ok s)
-
-abbrev pub resolution_count : Option Resolution → Kind → ℕ
-resolution_count s k = cond (same_kind k kinds.DisplayResolution) (once s) 0
-
 abbrev pub resolution_rules : Rules (Option Resolution)
-resolution_rules = record { place = places.Resolution; count = resolution_count; taken = resolution_taken; closing = λ s. [] }
+resolution_rules = lone_rules places.Resolution kinds.DisplayResolution resolution_tests resolution_of
 
 -- A page: what its phdr and its res box say, and the rows of its layout objects.
 pub record PageState : Type 0 where
@@ -93,29 +88,16 @@ page_with (Some h) (Some r) rows = Some (record { header = h.header; resolution 
 abbrev pub page_from : PageState → Option Page
 page_from s = page_with s.head s.resolution s.rows
 
--- a page that has come, or what there was before
-abbrev pub filled : Option Page → Page → Page
-filled None old = old
-filled (Some p) old = p
-
 -- The file: how many page boxes stand before the one that is wanted, or none where it has come; and the page that has come.
-pub record FileState : Type 0 where
-  pub left : Option ℕ
-  pub found : Option Page
+abbrev pub FileState : Type 0
+FileState = SearchState Page
 
 abbrev pub file_state : Option ℕ → Option Page → FileState
-file_state l f = record { left = l; found = f }
-
--- a page that has come
-abbrev pub found_if : Bool → Page → Option Page
-found_if false p = None
-found_if true p = Some p
+file_state l f = search_state l f
 
 -- one page box more
 abbrev pub counted : Option ℕ → Option Page → Option Page → FileState
-counted None found p = file_state None found
-counted (Some zero) found p = file_state None p
-counted (Some (suc n)) found p = file_state (Some n) found
+counted left found p = sought left found p
 
 abbrev pub file_taken : FileState → Kind → ℕ → ℕ → List ℕ → Result FileState Fault
 file_taken s k at body bs =

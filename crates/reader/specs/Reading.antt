@@ -1,6 +1,8 @@
 -- What reading answers for any bytes. Assumes nothing.
-use Rattle.std.specs.Prelude.{ℕ, true, List, length, Some, None, Ok, Err, Option, Result}
+use Rattle.std.specs.Prelude.{ℕ, true, List, ◌++◌, codes, length, Some, None, Ok, Err, Option, Result}
+use Rattle.std.specs.Fmt.{decimal}
 use Rattle.boxes.specs.Numbers.{reason_number}
+use Rattle.boxes.specs.Table.{layer_of}
 use Rattle.boxes.specs.declared.fault.Fault.{Fault}
 use Rattle.plan.specs.Page.{Page}
 use Rattle.reader.specs.Pages.{FileState, file_state, file_rules}
@@ -12,6 +14,12 @@ use Rattle.reader.specs.declared.read.Refusal.TheVariants.{Faulty, NoSuchPage}
 abbrev pub refusal_number : Refusal → ℕ
 refusal_number (Faulty f) = reason_number f.reason
 refusal_number NoSuchPage = 10
+
+-- how a refusal is printed: its number, and of a fault the layer of its container and the offset of the box
+abbrev pub refusal_text : Refusal → List ℕ
+refusal_text (Faulty f) =
+    codes "refused " ++ (decimal (reason_number f.reason) ++ (codes " layer " ++ (decimal (layer_of f.inside) ++ (codes " offset " ++ decimal f.offset))))
+refusal_text NoSuchPage = codes "refused " ++ decimal 10
 
 -- the whole file is walked first, and then the page must have come
 abbrev pub found_page : Option Page → Result Page Refusal

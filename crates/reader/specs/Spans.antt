@@ -1,20 +1,20 @@
 -- Where a page box lies in a file. Assumes nothing.
-use Rattle.std.specs.Prelude.{ℕ, zero, suc, ◌+◌, ◌-◌, true, cond, List, [], length, Some, None, Ok, Err, Option, Result}
+use Rattle.std.specs.Prelude.{ℕ, ◌+◌, ◌-◌, true, cond, List, [], length, Some, None, Ok, Err, Option, Result}
 use Rattle.boxes.specs.Table.{same_kind}
 use Rattle.boxes.specs.declared.fault.Fault.{Fault}
 use Rattle.boxes.specs.declared.table.Kind.{Kind}
 use Rattle.boxes.specs.declared.table.Kind.TheVariants as kinds
 use Rattle.boxes.specs.declared.table.Place.TheVariants as places
+use Rattle.reader.specs.Searches.{SearchState, search_state, sought}
 use Rattle.reader.specs.Walk.{Rules, walked}
 use Rattle.reader.specs.declared.span.Span.{Span}
 
 -- how many page boxes stand before the one that is wanted, or none where it has come; and where it lies
-pub record FinderState : Type 0 where
-  pub left : Option ℕ
-  pub found : Option Span
+abbrev pub FinderState : Type 0
+FinderState = SearchState Span
 
 abbrev pub finder_state : Option ℕ → Option Span → FinderState
-finder_state l f = record { left = l; found = f }
+finder_state l f = search_state l f
 
 -- a box from its header's offset to the end of its contents
 abbrev pub span_of : ℕ → ℕ → List ℕ → Span
@@ -22,9 +22,7 @@ span_of at body bs = record { offset = at; size = body - at + length bs }
 
 -- one page box more
 abbrev pub passed : Option ℕ → Option Span → Span → FinderState
-passed None found s = finder_state None found
-passed (Some zero) found s = finder_state None (Some s)
-passed (Some (suc n)) found s = finder_state (Some n) found
+passed left found s = sought left found (Some s)
 
 abbrev pub finder_taken : FinderState → Kind → ℕ → ℕ → List ℕ → Result FinderState Fault
 finder_taken s k at body bs = Ok (cond (same_kind k kinds.Page) (passed s.left s.found (span_of at body bs)) s)

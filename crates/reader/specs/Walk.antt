@@ -1,5 +1,6 @@
 -- How the boxes of a container are met, one after the other, up to the first fault. Assumes nothing.
-use Rattle.std.specs.Prelude.{ℕ, zero, suc, ◌+◌, ◌-◌, Bool, true, false, ◌&&◌, ◌||◌, List, [], ◌∷◌, length, take, drop, Some, None, Ok, Err, Option, Result, nat_lt}
+use Rattle.std.specs.Prelude.{ℕ, zero, suc, ◌+◌, ◌-◌, Bool, true, false, ◌&&◌, List, [], ◌∷◌, length, take, drop, Some, None, Ok, Err, Option, Result, nat_lt}
+use Rattle.std.specs.List.{list_any}
 use Rattle.boxes.specs.Frame.{framed}
 use Rattle.boxes.specs.Table.{table, same_place, entry_of, place_tests}
 use Rattle.boxes.specs.Tests.{Test, judged}
@@ -76,8 +77,7 @@ module _ {S : Type 0} (r : Rules S) where
 
   -- there are too few of some line
   abbrev pub lacking : S → List Entry → Bool
-  lacking s [] = false
-  lacking s (e ∷ es) = short s e || lacking s es
+  lacking s es = list_any (short s) es
 
   -- the tests at the container's end, in their order
   abbrev pub end_tests : S → List Test

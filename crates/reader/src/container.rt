@@ -1,8 +1,9 @@
 // What a container of boxes is, for the one walk that serves them all.
-ghost use Rattle.std.specs.Prelude.{◌≡◌, ◌+◌, ◌^◌, ◌<◌, length};
-ghost use Rattle.boxes.specs.Tests.{first_failure};
+ghost use Rattle.std.specs.Prelude.{◌≡◌};
+ghost use Rattle.boxes.specs.Tests.{judged};
 ghost use Rattle.reader.specs.Walk.{Rules, outcome};
 
+use crate::parts::FoundBox;
 use boxes::fault::Fault;
 use boxes::reason::Reason;
 use boxes::table::{Kind, Place};
@@ -23,12 +24,11 @@ pub(crate) trait Container {
     fn count(&self, kind: Kind) -> u8
         ensures value { result ≡ rules.count (state self.now) kind };
 
-    // Takes a box of a type that stands here, with its header at `at` and its contents at `body` in the file.
-    fn take(&mut self, kind: Kind, at: usize, body: usize, contents: &[u8]) -> Result<(), Fault>
-        requires { body + length contents.now < 2 ^ 64 }
-        ensures after { outcome result (state self.new) ≡ rules.taken (state self.old) kind at body contents.now };
+    // Takes a box of a type that stands here.
+    fn take(&mut self, kind: Kind, found: FoundBox) -> Result<(), Fault>
+        ensures after { outcome result (state self.new) ≡ rules.taken (state self.old) kind found.entry.at found.entry.contents.start found.entry.contents.bytes.now };
 
     // What is wrong at its end, besides boxes that are missing.
-    fn closing(&self) -> Option<Reason>
-        ensures value { result ≡ first_failure (rules.closing (state self.now)) };
+    fn closing(&self) -> Result<(), Reason>
+        ensures value { result ≡ judged (rules.closing (state self.now)) tt };
 }

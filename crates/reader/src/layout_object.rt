@@ -1,10 +1,13 @@
 // A layout object: a superbox with a lhdr box and one or two objects.
-ghost use Rattle.std.specs.Prelude.{◌≡◌};
+ghost use Rattle.std.specs.Prelude.{◌≡◌, true, false, IfOk, IfSome};
+ghost use Rattle.boxes.specs.Tests.{judged};
+ghost use Rattle.plan.specs.Headers.{layout_head_of};
 ghost use Rattle.plan.specs.Laws.{has_id};
-ghost use Rattle.reader.specs.Objects.{LayoutState, layout_rules, layout_state, lone_fits, pair_fits, fits, row_of, held_more, held_count};
+ghost use Rattle.reader.specs.Objects.{LayoutState, layout_rules, layout_state, lone_fits, pair_fits, fits, row_of, held_more, held_count, head_tests, new_among};
 
 use crate::container::Container;
-use crate::object::ObjectDraft;
+use crate::lone::Lone;
+use crate::parts::FoundBox;
 use crate::walk::{locate, read_superbox};
 use boxes::fault::Fault;
 use boxes::reason::Reason;
@@ -12,7 +15,7 @@ use boxes::table::{Kind, Place};
 use plan::headers::{LayoutHead, ObjectHead, ObjectType, Style, read_layout_header};
 use plan::layout::{Objects, Row};
 
-// The objects of a layout object so far, in file order.
+// The objects of a layout object so far, in file order. There are two at most, so an enum holds them in fixed memory and names each case.
 #[derive(Clone, Copy)]
 pub(crate) enum Held {
     Empty,
@@ -89,29 +92,38 @@ fn pair_under(style: Style, first: ObjectHead, second: ObjectHead) -> Option<Obj
 }
 
 // Whether some row has an identifier.
-pub(crate) fn has_id(rows: &[Row], id: u16) -> bool
+fn has_id(rows: &[Row], id: u16) -> bool
     ensures value { result ≡ has_id id rows.now }
 {
-    for row in rows {
-        if row.layout.lobjid == id {
-            return true;
-        }
-    }
-    false
+    rows.iter().any(|row| row.layout.lobjid == id)
 }
 
-// What has been read of a layout object, after the layout objects of the rows `earlier`.
+// What has been read of a layout object, after the layout objects of the rows `earlier`, of which none has its identifier.
 #[derive(Drop)]
 pub(crate) struct LayoutDraft<'a> {
     pub(crate) earlier: &'a [Row],
     pub(crate) head: Option<LayoutHead>,
     pub(crate) held: Held,
+    ghost new: { new_among earlier.now head ≡ true },
 }
 
 impl LayoutDraft<'_> {
+    // What a lhdr box says, where no earlier layout object has its identifier.
+    fn read_head(&self, contents: &[u8]) -> Result<LayoutHead, Reason>
+        ensures value { result ≡ judged (head_tests (layout_state self.now.earlier.now self.now.head self.now.held) contents.now) (layout_head_of contents.now) }
+        ensures new { IfOk result (λ head. has_id head.layout.lobjid self.now.earlier.now ≡ false) }
+    {
+        let head = read_layout_header(contents)?;
+        if has_id(self.earlier, head.layout.lobjid) {
+            return Err(Reason::RepeatedIdentifier);
+        }
+        Ok(head)
+    }
+
     // The row, where style and objects fit.
     pub(crate) fn row(&self) -> Option<Row>
         ensures value { result ≡ row_of self.now.head self.now.held }
+        ensures new { IfSome result (λ row. has_id row.layout.lobjid self.now.earlier.now ≡ false) }
     {
         let head = self.head?;
         let objects = self.held.under(head.style)?;
@@ -141,31 +153,26 @@ impl Container for LayoutDraft<'_> {
         }
     }
 
-    fn take(&mut self, kind: Kind, at: usize, body: usize, contents: &[u8]) -> Result<(), Fault> {
-        if kind == Kind::LayoutHeader {
-            let head = locate(read_layout_header(contents), Place::LayoutObject, at)?;
-            if has_id(self.earlier, head.layout.lobjid) {
-                return Err(Fault {
-                    reason: Reason::RepeatedIdentifier,
-                    inside: Place::LayoutObject,
-                    offset: at,
-                });
+    fn take(&mut self, kind: Kind, found: FoundBox) -> Result<(), Fault> {
+        match kind {
+            Kind::LayoutHeader => {
+                let head = self.read_head(found.contents.bytes);
+                self.head = Some(locate(head, Place::LayoutObject, found.at)?);
             }
-            self.head = Some(head);
-        } else if kind == Kind::Object {
-            let mut object = ObjectDraft { head: None };
-            read_superbox(&mut object, at, body, contents)?;
-            if let Some(head) = object.head {
-                self.held = self.held.with(head);
+            Kind::Object => {
+                let mut object = Lone { head: None };
+                read_superbox(&mut object, found)?;
+                if let Some(head) = object.head {
+                    self.held = self.held.with(head);
+                }
             }
+            _ => {}
         }
         Ok(())
     }
 
-    fn closing(&self) -> Option<Reason> {
-        match self.row() {
-            Some(_) => None,
-            None => Some(Reason::StyleMismatch),
-        }
+    fn closing(&self) -> Result<(), Reason> {
+        self.row().ok_or(Reason::StyleMismatch)?;
+        Ok(())
     }
 }

@@ -2,12 +2,13 @@
 #![tactic(auto)]
 
 mod container;
-mod drafts;
 mod file;
+mod heads;
 mod layout_object;
-mod object;
+mod lone;
 mod page;
+mod parts;
 pub mod read;
-mod resolution;
+mod search;
 pub mod span;
 mod walk;

@@ -1,47 +1,64 @@
 // A page: a superbox with a phdr box, a res box and up to 64 layout objects.
-ghost use Rattle.std.specs.Prelude.{◌≡◌, ◌+◌, ◌^◌, ◌<◌, ◌≤◌, cond, length, take, is_some};
+ghost use Rattle.std.specs.Prelude.{◌≡◌, false, option_map, IfOk, IfSome};
+ghost use Rattle.plan.specs.Laws.{has_id};
 ghost use Rattle.plan.specs.Page.{page_of};
-ghost use Rattle.reader.specs.Pages.{PageState, page_state, new_page, page_rules, page_from, pushed, filled, row_read, header_into, resolution_into, layout_into};
+ghost use Rattle.reader.specs.Pages.{PageState, new_page, page_rules, page_from, with_row, row_read, header_into, resolution_into, layout_into};
 ghost use Rattle.reader.specs.Walk.{outcome};
 
 use crate::container::Container;
-use crate::drafts::{PageDraft, ResolutionDraft};
-use crate::layout_object::{Held, LayoutDraft, has_id};
+use crate::layout_object::{Held, LayoutDraft};
+use crate::lone::Lone;
+use crate::parts::FoundBox;
 use crate::walk::{locate, read_superbox};
 use boxes::fault::Fault;
 use boxes::reason::Reason;
 use boxes::table::{Kind, Place};
-use plan::headers::read_page_header;
+use plan::headers::{PageHead, read_page_header};
 use plan::lawful::Plan;
 use plan::layout::Row;
+use plan::page::Resolution;
 use plan::views::blank_row;
-
-// The first rows of an array.
-fn first_rows(rows: &[Row; 64], used: usize) -> &[Row]
-    requires { used ≤ 64 }
-    ensures value { result.now ≡ take used rows.now }
-{
-    &rows[0..used]
-}
+use std::marker::Model;
 
 // The row of a layout object after those of the rows `earlier`.
-fn read_row(earlier: &[Row], at: usize, body: usize, contents: &[u8]) -> Result<Option<Row>, Fault>
-    requires { body + length contents.now < 2 ^ 64 }
-    ensures value { result ≡ row_read earlier.now at body contents.now }
+fn read_row(earlier: &[Row], found: FoundBox) -> Result<Option<Row>, Fault>
+    ensures value { result ≡ row_read earlier.now found.entry.at found.entry.contents.start found.entry.contents.bytes.now }
+    ensures new { IfOk result (λ row. IfSome row (λ row. has_id row.layout.lobjid earlier.now ≡ false)) }
 {
     let mut draft = LayoutDraft {
         earlier,
         head: None,
         held: Held::Empty,
     };
-    read_superbox(&mut draft, at, body, contents)?;
+    read_superbox(&mut draft, found)?;
     Ok(draft.row())
+}
+
+// What has been read of a page. Its rows are an array with a count, in fixed memory, since they become the plan's as they stand.
+#[derive(Drop)]
+pub(crate) struct PageDraft {
+    head: Option<PageHead>,
+    resolution: Option<Resolution>,
+    rows: [Row; 64],
+    used: usize,
+}
+
+impl Model for PageDraft {
+    ghost use Rattle.std.specs.Prelude.{take};
+    ghost use Rattle.reader.specs.Drafts.{IsLawful};
+    ghost use Rattle.reader.specs.Pages.{PageState, page_state};
+
+    ghost Value = { PageState };
+
+    ghost view = { λ s. page_state s.head s.resolution (take s.used s.rows) };
+
+    ghost invariant = { λ s. IsLawful s.head s.resolution s.used s.rows };
 }
 
 impl PageDraft {
     // A page that has no box yet.
     pub(crate) fn new() -> PageDraft
-        ensures value { page_state result.head result.resolution (take result.used result.rows) ≡ new_page }
+        ensures value { result ≡ new_page }
     {
         PageDraft {
             head: None,
@@ -51,68 +68,67 @@ impl PageDraft {
         }
     }
 
-    // One row more, where there is room and its identifier is new.
+    // The rows so far.
+    fn rows(&self) -> &[Row]
+        ensures value { result.now ≡ self.now.rows }
+    {
+        &self.rows[..self.used]
+    }
+
+    // One row more, where there is room. Its identifier is new.
     fn push(&mut self, row: Row)
-        ensures rows { take self.new.used self.new.rows ≡ pushed (take self.old.used self.old.rows) row }
-        ensures same { (self.new.head ≡ self.old.head) × (self.new.resolution ≡ self.old.resolution) }
+        requires { has_id row.layout.lobjid self.old.rows ≡ false }
+        ensures after { self.new ≡ with_row self.old (Some row) }
     {
         let used = self.used;
-        if used < 64 && !has_id(first_rows(&self.rows, used), row.layout.lobjid) {
+        if used < 64 {
             self.rows[used] = row;
             self.used = used + 1;
         }
     }
 
     // Takes a phdr box.
-    fn take_header(&mut self, at: usize, contents: &[u8]) -> Result<(), Fault>
-        ensures after { outcome result (page_state self.new.head self.new.resolution (take self.new.used self.new.rows)) ≡ header_into (page_state self.old.head self.old.resolution (take self.old.used self.old.rows)) at contents.now }
+    fn take_header(&mut self, found: FoundBox) -> Result<(), Fault>
+        ensures after { outcome result self.new ≡ header_into self.old found.entry.at found.entry.contents.bytes.now }
     {
-        let head = locate(read_page_header(contents), Place::Page, at)?;
-        self.head = Some(head);
+        let head = read_page_header(found.contents.bytes);
+        self.head = Some(locate(head, Place::Page, found.at)?);
         Ok(())
     }
 
     // Takes a res box.
-    fn take_resolution(&mut self, at: usize, body: usize, contents: &[u8]) -> Result<(), Fault>
-        requires { body + length contents.now < 2 ^ 64 }
-        ensures after { outcome result (page_state self.new.head self.new.resolution (take self.new.used self.new.rows)) ≡ resolution_into (page_state self.old.head self.old.resolution (take self.old.used self.old.rows)) at body contents.now }
+    fn take_resolution(&mut self, found: FoundBox) -> Result<(), Fault>
+        ensures after { outcome result self.new ≡ resolution_into self.old found.entry.at found.entry.contents.start found.entry.contents.bytes.now }
     {
-        let mut draft = ResolutionDraft { resolution: None };
-        read_superbox(&mut draft, at, body, contents)?;
-        self.resolution = draft.resolution;
+        let mut draft = Lone { head: None };
+        read_superbox(&mut draft, found)?;
+        self.resolution = draft.head;
         Ok(())
     }
 
     // Takes a layout object.
-    fn take_layout_object(&mut self, at: usize, body: usize, contents: &[u8]) -> Result<(), Fault>
-        requires { body + length contents.now < 2 ^ 64 }
-        ensures after { outcome result (page_state self.new.head self.new.resolution (take self.new.used self.new.rows)) ≡ layout_into (page_state self.old.head self.old.resolution (take self.old.used self.old.rows)) at body contents.now }
+    fn take_layout_object(&mut self, found: FoundBox) -> Result<(), Fault>
+        ensures after { outcome result self.new ≡ layout_into self.old found.entry.at found.entry.contents.start found.entry.contents.bytes.now }
     {
-        if let Some(row) = read_row(first_rows(&self.rows, self.used), at, body, contents)? {
+        if let Some(row) = read_row(self.rows(), found)? {
             self.push(row);
         }
         Ok(())
     }
 
-    // Writes the plan that a whole page says, and answers whether it is whole.
-    pub(crate) fn fill(&self, plan: &mut Plan) -> bool
-        ensures answer { result ≡ is_some (page_from (page_state self.now.head self.now.resolution (take self.now.used self.now.rows))) }
-        ensures plan { page_of plan.new ≡ filled (page_from (page_state self.now.head self.now.resolution (take self.now.used self.now.rows))) (page_of plan.old) }
+    // The plan that a whole page says.
+    pub(crate) fn plan(&self) -> Option<Plan>
+        ensures plan { option_map page_of result ≡ page_from self.now }
     {
-        let Some(head) = self.head else {
-            return false;
-        };
-        let Some(resolution) = self.resolution else {
-            return false;
-        };
+        let header = self.head?.header;
+        let resolution = self.resolution?;
         let rows = self.rows;
-        *plan = Plan {
-            header: head.header,
+        Some(Plan {
+            header,
             resolution,
             rows,
             count: self.used,
-        };
-        true
+        })
     }
 }
 
@@ -121,7 +137,7 @@ impl Container for PageDraft {
 
     ghost rules = { page_rules };
 
-    ghost state = { λ s. page_state s.head s.resolution (take s.used s.rows) };
+    ghost state = { λ s. s };
 
     fn place(&self) -> Place {
         Place::Page
@@ -136,19 +152,19 @@ impl Container for PageDraft {
         }
     }
 
-    fn take(&mut self, kind: Kind, at: usize, body: usize, contents: &[u8]) -> Result<(), Fault> {
+    fn take(&mut self, kind: Kind, found: FoundBox) -> Result<(), Fault> {
         match kind {
-            Kind::PageHeader => self.take_header(at, contents),
-            Kind::Resolution => self.take_resolution(at, body, contents),
-            Kind::LayoutObject => self.take_layout_object(at, body, contents),
+            Kind::PageHeader => self.take_header(found),
+            Kind::Resolution => self.take_resolution(found),
+            Kind::LayoutObject => self.take_layout_object(found),
             _ => Ok(()),
         }
     }
 
-    fn closing(&self) -> Option<Reason> {
+    fn closing(&self) -> Result<(), Reason> {
         match self.head {
-            Some(head) if usize::from(head.nlobj) != self.used => Some(Reason::Miscounted),
-            _ => None,
+            Some(head) if usize::from(head.nlobj) != self.used => Err(Reason::Miscounted),
+            _ => Ok(()),
         }
     }
 }

@@ -1,8 +1,10 @@
 // Where a page box lies in a file.
-ghost use Rattle.std.specs.Prelude.{◌≡◌, ◌+◌, ◌^◌, ◌<◌, ◌≤◌, length};
-ghost use Rattle.reader.specs.Spans.{FinderState, finder_state, finder_rules, span_of, span_at};
+ghost use Rattle.std.specs.Prelude.{◌≡◌};
+ghost use Rattle.reader.specs.Spans.{FinderState, finder_state, finder_rules, span_at};
 
 use crate::container::Container;
+use crate::parts::{FoundBox, Part};
+use crate::search::Search;
 use crate::walk::walk;
 use boxes::fault::Fault;
 use boxes::reason::Reason;
@@ -15,14 +17,7 @@ pub struct Span {
     pub size: usize,
 }
 
-// The search for a page box: how many page boxes are to come before it, or `None` where it has come, and where it lies.
-#[derive(Drop)]
-struct Finder {
-    left: Option<u64>,
-    found: Option<Span>,
-}
-
-impl Container for Finder {
+impl Container for Search<Span> {
     ghost State = { FinderState };
 
     ghost rules = { finder_rules };
@@ -37,25 +32,19 @@ impl Container for Finder {
         0
     }
 
-    fn take(&mut self, kind: Kind, at: usize, body: usize, contents: &[u8]) -> Result<(), Fault> {
-        if kind == Kind::Page {
-            match self.left {
-                Some(0) => {
-                    self.left = None;
-                    self.found = Some(Span {
-                        offset: at,
-                        size: body.saturating_sub(at) + contents.len(),
-                    });
-                }
-                Some(more) => self.left = Some(more - 1),
-                None => {}
-            }
+    fn take(&mut self, kind: Kind, found: FoundBox) -> Result<(), Fault> {
+        if kind == Kind::Page && self.pass() {
+            let FoundBox { at, contents } = found;
+            self.found = Some(Span {
+                offset: at,
+                size: contents.start.saturating_sub(at) + contents.bytes.len(),
+            });
         }
         Ok(())
     }
 
-    fn closing(&self) -> Option<Reason> {
-        None
+    fn closing(&self) -> Result<(), Reason> {
+        Ok(())
     }
 }
 
@@ -63,12 +52,10 @@ impl Container for Finder {
 pub fn find_page(file: &[u8], number: u64) -> Option<Span>
     ensures answer { result ≡ span_at number file.now }
 {
-    let mut finder = Finder {
+    let mut search = Search {
         left: Some(number),
         found: None,
     };
-    match walk(&mut finder, file, 0) {
-        Ok(()) => finder.found,
-        Err(_) => None,
-    }
+    walk(&mut search, Part::whole(file)).ok()?;
+    search.found
 }

@@ -1,10 +1,12 @@
 // The one walk over the boxes of a container, up to the first fault.
-ghost use Rattle.std.specs.Prelude.{◌≡◌, ◌+◌, ◌^◌, ◌<◌, ◌≤◌, true, length, IfOk};
+ghost use Rattle.std.specs.Prelude.{◌≡◌, ◌<◌, ◌≤◌, true, length, IfOk};
 ghost use Rattle.boxes.specs.Frame.{Within};
 ghost use Rattle.boxes.specs.Table.{table, entry_of};
-ghost use Rattle.reader.specs.Walk.{located, met, listed, walked, superbox, short, lacking, outcome, sized_outcome};
+ghost use Rattle.boxes.specs.Tests.{judged};
+ghost use Rattle.reader.specs.Walk.{located, met, listed, walked, superbox, short, lacking, end_tests, outcome, sized_outcome};
 
 use crate::container::Container;
+use crate::parts::{FoundBox, Part};
 use boxes::fault::Fault;
 use boxes::frame::{Frame, read_frame};
 use boxes::reason::Reason;
@@ -14,85 +16,61 @@ use boxes::table::{Entry, Place, TABLE, entry_of, misplaced};
 pub(crate) fn locate<T>(answer: Result<T, Reason>, inside: Place, offset: usize) -> Result<T, Fault>
     ensures value { result ≡ located inside offset answer }
 {
-    match answer {
-        Ok(value) => Ok(value),
-        Err(reason) => Err(Fault {
-            reason,
-            inside,
-            offset,
-        }),
-    }
+    answer.map_err(|reason| Fault {
+        reason,
+        inside,
+        offset,
+    })
 }
 
 // One box, at the front of what is left of its container. Answers its size.
-fn meet<C: Container>(
-    container: &mut C,
-    rest: &[u8],
-    at: usize,
-    first: bool,
-) -> Result<usize, Fault>
-    requires { at + length rest.now < 2 ^ 64 }
-    ensures after { sized_outcome result (C.Container.state container.new) ≡ met C.Container.rules at first rest.now (C.Container.state container.old) }
-    ensures within { IfOk result (λ n. (0 < n) × (n ≤ length rest.now)) }
+fn meet<C: Container>(container: &mut C, rest: Part, first: bool) -> Result<usize, Fault>
+    ensures after { sized_outcome result (C.Container.state container.new) ≡ met C.Container.rules rest.entry.start first rest.entry.bytes.now (C.Container.state container.old) }
+    ensures within { IfOk result (λ n. (0 < n) × (n ≤ length rest.entry.bytes.now)) }
 {
     let inside = container.place();
-    match read_frame(rest, inside == Place::File) {
-        Ok(found) => {
-            accept(container, rest, at, first, found)?;
-            Ok(found.size)
-        }
-        Err(reason) => Err(Fault {
-            reason,
-            inside,
-            offset: at,
-        }),
-    }
+    let frame = locate(
+        read_frame(rest.bytes, inside == Place::File),
+        inside,
+        rest.start,
+    )?;
+    accept(container, rest, first, frame)?;
+    Ok(frame.size)
 }
 
 // A box whose header has been read: skipped where the table has no such type, else taken where it stands as it may.
 fn accept<C: Container>(
     container: &mut C,
-    rest: &[u8],
-    at: usize,
+    rest: Part,
     first: bool,
-    found: Frame,
+    frame: Frame,
 ) -> Result<(), Fault>
-    requires { (at + length rest.now < 2 ^ 64) × Within found (length rest.now) }
-    ensures after { outcome result (C.Container.state container.new) ≡ listed C.Container.rules at first rest.now (C.Container.state container.old) found (entry_of found.code) }
+    requires { Within frame (length rest.bytes.now) }
+    ensures after { outcome result (C.Container.state container.new) ≡ listed C.Container.rules rest.entry.start first rest.entry.bytes.now (C.Container.state container.old) frame (entry_of frame.code) }
 {
-    let Frame { code, header, size } = found;
-    let Some(entry) = entry_of(code) else {
+    let Some(entry) = entry_of(frame.code) else {
         return Ok(());
     };
     let inside = container.place();
-    let kind = entry.kind;
-    let seen = container.count(kind);
-    match misplaced(inside, entry, seen, first) {
-        Some(reason) => Err(Fault {
-            reason,
-            inside,
-            offset: at,
-        }),
-        None => container.take(kind, at, at + header, &rest[header..size]),
-    }
+    let seen = container.count(entry.kind);
+    locate(misplaced(inside, entry, seen, first), inside, rest.start)?;
+    let found = FoundBox {
+        at: rest.start,
+        contents: rest.between(frame.header, frame.size),
+    };
+    container.take(entry.kind, found)
 }
 
-// All the boxes of a container, whose contents are at `start` in the file.
-pub(crate) fn walk<C: Container>(
-    container: &mut C,
-    contents: &[u8],
-    start: usize,
-) -> Result<(), Fault>
-    requires { start + length contents.now < 2 ^ 64 }
-    ensures after { outcome result (C.Container.state container.new) ≡ walked C.Container.rules (length contents.now) start true contents.now (C.Container.state container.old) }
+// All the boxes of a container. How far the next box lies is known only once this one is read, and a fault ends the walk, so
+// the loop goes on while bytes are left.
+pub(crate) fn walk<C: Container>(container: &mut C, contents: Part) -> Result<(), Fault>
+    ensures after { outcome result (C.Container.state container.new) ≡ walked C.Container.rules (length contents.entry.bytes.now) contents.entry.start true contents.entry.bytes.now (C.Container.state container.old) }
 {
     let mut rest = contents;
-    let mut at = start;
     let mut first = true;
-    while !rest.is_empty() {
-        let size = meet(container, rest, at, first)?;
-        rest = &rest[size..];
-        at += size;
+    while !rest.bytes.is_empty() {
+        let size = meet(container, rest, first)?;
+        rest = rest.after(size);
         first = false;
     }
     Ok(())
@@ -109,39 +87,23 @@ fn is_short<C: Container>(container: &C, entry: Entry) -> bool
 fn is_lacking<C: Container>(container: &C) -> bool
     ensures value { result ≡ lacking C.Container.rules (C.Container.state container.now) table }
 {
-    for i in 0..8 {
-        if is_short(container, TABLE[i]) {
-            return true;
-        }
-    }
-    false
+    TABLE.iter().any(|entry| is_short(container, *entry))
 }
 
-// A whole superbox, with its header at `at` and its contents at `body` in the file: its boxes, and then what has to hold at its end.
-pub(crate) fn read_superbox<C: Container>(
-    container: &mut C,
-    at: usize,
-    body: usize,
-    contents: &[u8],
-) -> Result<(), Fault>
-    requires { body + length contents.now < 2 ^ 64 }
-    ensures after { outcome result (C.Container.state container.new) ≡ superbox C.Container.rules at body contents.now (C.Container.state container.old) }
+// What has to hold at the container's end: no box is missing, and then its own tests.
+fn close<C: Container>(container: &C) -> Result<(), Reason>
+    ensures value { result ≡ judged (end_tests C.Container.rules (C.Container.state container.now)) tt }
 {
-    walk(container, contents, body)?;
-    let inside = container.place();
     if is_lacking(container) {
-        return Err(Fault {
-            reason: Reason::Misplaced,
-            inside,
-            offset: at,
-        });
+        return Err(Reason::Misplaced);
     }
-    match container.closing() {
-        Some(reason) => Err(Fault {
-            reason,
-            inside,
-            offset: at,
-        }),
-        None => Ok(()),
-    }
+    container.closing()
+}
+
+// A whole superbox: its boxes, and then what has to hold at its end.
+pub(crate) fn read_superbox<C: Container>(container: &mut C, found: FoundBox) -> Result<(), Fault>
+    ensures after { outcome result (C.Container.state container.new) ≡ superbox C.Container.rules found.entry.at found.entry.contents.start found.entry.contents.bytes.now (C.Container.state container.old) }
+{
+    walk(container, found.contents)?;
+    locate(close(container), container.place(), found.at)
 }

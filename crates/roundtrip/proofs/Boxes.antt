@@ -1,7 +1,7 @@
 -- A box in the written form, met by the walk of a container. Assumes nothing.
 use Rattle.std.proofs.Common.{◌≡◌, ℕ, ◌+◌, ◌-◌, ◌<◌, ◌≤◌, Bool, true, false, cond, not, ◌&&◌, eqb, ltb, List, [], ◌∷◌, ◌++◌, length, drop, Some, None, Ok, Result, sym, refl, ap, ◌∙◌, ap₂, arith, length-append}
 use Rattle.std.proofs.lemmas.List.{append-nil, take_at, drop_at}
-use Rattle.std.proofs.lemmas.Bool.{le-ltb, ne_eqb}
+use Rattle.std.proofs.lemmas.Bool.Decides.{nat_tests}
 use Rattle.boxes.specs.Frame.{framed, frame_made, length_tests, long_length}
 use Rattle.boxes.specs.Table.{entry_of, place_tests, same_place}
 use Rattle.boxes.specs.Tests.{Test, or_else, judged, first_failure}
@@ -29,13 +29,7 @@ said top left long short code =
 
 -- a length of 8 and above that lies within the container is granted
 said-short : (top : Bool) (left long n code : ℕ) → 8 ≤ n → n ≤ left → said top left long n code ≡ Ok (frame_made code 8 n)
-said-short top left long n code low high =
-    let not-long : eqb n 1 ≡ false = ne_eqb n 1 (λ e. omega arith) in
-    let not-open : eqb n 0 ≡ false = ne_eqb n 0 (λ e. omega arith) in
-    let whole : ltb left 8 ≡ false = le-ltb left 8 (omega arith) in
-    let inside : ltb left n ≡ false = le-ltb left n high in
-    let room : ltb n 8 ≡ false = le-ltb n 8 low in
-    rw (not-long, not-open, whole, inside, room)
+said-short top left long n code low high = grind (arith, nat_tests)
 
 -- a value whose tests pass
 pub tested-passes : {A : Type 0} (p : Place) (at : ℕ) (ts : List Test) (a : A) → first_failure ts ≡ None → tested p at ts a ≡ Ok a

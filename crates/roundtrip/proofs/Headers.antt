@@ -1,5 +1,6 @@
 -- Each header, read from the contents that are written for it. Assumes nothing.
-use Rattle.std.proofs.Common.{◌≡◌, ℕ, Bool, true, false, not, ◌||◌, eqb, ltb, Some, None, Option, refl, ap, ◌∙◌, ap₂, lit<}
+use Rattle.std.proofs.Common.{arith, ◌≡◌, ℕ, Bool, true, false, not, ◌||◌, eqb, ltb, Some, None, Option, ap, ◌∙◌, ap₂}
+use Rattle.std.proofs.lemmas.Bool.Decides.{nat_tests}
 use Rattle.boxes.specs.Field.{field, digits}
 use Rattle.boxes.specs.Tests.{unless, first_failure}
 use Rattle.boxes.specs.declared.reason.Reason.TheVariants.{IllegalValue}
@@ -8,7 +9,6 @@ use Rattle.plan.specs.Laws.{sized_page, whole_resolution}
 use Rattle.plan.specs.declared.headers.LayoutHead.{LayoutHead}
 use Rattle.plan.specs.declared.headers.ObjectHead.{ObjectHead}
 use Rattle.plan.specs.declared.headers.ObjectType.{ObjectType}
-use Rattle.plan.specs.declared.headers.ObjectType.TheVariants as types
 use Rattle.plan.specs.declared.headers.PageHead.{PageHead}
 use Rattle.plan.specs.declared.headers.Style.{Style}
 use Rattle.plan.specs.declared.headers.Style.TheVariants as styles
@@ -101,22 +101,13 @@ abbrev pub layout_head : Layout → Style → LayoutHead
 layout_head l s = record { layout = l; style = s }
 
 style_fits : (os : Objects) → InBytes 2 (style_number os)
-style_fits (Separate mask image) = lit< tt
-style_fits (Both object) = lit< tt
-style_fits (Image object) = lit< tt
-style_fits (Mask object) = lit< tt
+style_fits os = grind arith
 
 style_for_lem : (os : Objects) → style_of (style_number os) ≡ style_for os
-style_for_lem (Separate mask image) = refl
-style_for_lem (Both object) = refl
-style_for_lem (Image object) = refl
-style_for_lem (Mask object) = refl
+style_for_lem os = grind (arith, nat_tests)
 
 pub style_passes : (os : Objects) → ltb 3 (field 2 0 (digits 2 (style_number os))) ≡ false
-style_passes (Separate mask image) = refl
-style_passes (Both object) = refl
-style_passes (Image object) = refl
-style_passes (Mask object) = refl
+style_passes os = grind (arith, nat_tests)
 
 module _ (l : Layout) (f : LayoutFits l) where
   fields-of : (style : ℕ) → InBytes 2 style → layout_head_of (lhdr_contents l style) ≡ layout_head l (style_of style)
@@ -141,27 +132,19 @@ abbrev pub object_head : Object → ObjectType → ObjectHead
 object_head o t = record { objtype = t; object = o }
 
 type_fits : (t : ObjectType) → InBytes 2 (type_number t)
-type_fits types.Mask = lit< tt
-type_fits types.Image = lit< tt
-type_fits types.Both = lit< tt
+type_fits t = grind arith
 
 type_of_lem : (t : ObjectType) → type_of (field 2 0 (digits 2 (type_number t))) ≡ t
-type_of_lem types.Mask = refl
-type_of_lem types.Image = refl
-type_of_lem types.Both = refl
+type_of_lem t = grind (arith, nat_tests)
 
 flag-of : (b : Bool) → eqb (field 2 0 (digits 2 (flag b))) 1 ≡ b
-flag-of false = refl
-flag-of true = refl
+flag-of b = grind (arith, nat_tests)
 
 flag-passes : (b : Bool) → ltb 1 (field 2 0 (digits 2 (flag b))) ≡ false
-flag-passes false = refl
-flag-passes true = refl
+flag-passes b = grind (arith, nat_tests)
 
 type_passes : (t : ObjectType) → ltb 2 (field 2 0 (digits 2 (type_number t))) ≡ false
-type_passes types.Mask = refl
-type_passes types.Image = refl
-type_passes types.Both = refl
+type_passes t = grind (arith, nat_tests)
 
 module _ (o : Object) (f : ObjectFits o) (t : ObjectType) where
   pub object-fields : object_head_of (ohdr_contents o t) ≡ object_head o t

@@ -1,6 +1,5 @@
 pub mod Boxes
 pub mod Digits
-pub mod Fitting
 pub mod Headers
 pub mod Objects
 pub mod Pages

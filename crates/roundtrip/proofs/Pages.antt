@@ -1,11 +1,10 @@
 -- A page in the written form, as it is read. Assumes nothing.
-use Rattle.std.proofs.Common.{◌≡◌, ℕ, ◌+◌, ◌*◌, ◌<◌, ◌≤◌, true, false, not, ◌||◌, List, [], ◌∷◌, ◌++◌, length, Some, None, Ok, Option, sym, refl, ap, ◌∙◌, ap₂, append_assoc, arith, lit<, length-append}
+use Rattle.std.proofs.Common.{◌≡◌, ℕ, suc, ◌+◌, ◌*◌, ◌<◌, ◌≤◌, true, false, List, [], ◌∷◌, ◌++◌, length, Some, None, Ok, Option, sym, refl, ap, ◌∙◌, append_assoc, arith, lit<, length-append}
 use Rattle.std.proofs.lemmas.List.{append-nil}
-use Rattle.std.proofs.lemmas.Bool.{and_parts, or_parts, or_from, not-true, eq-eqb, ne_eqb, eqb-false, lt-leb, le-ltb}
+use Rattle.std.proofs.lemmas.Bool.Decides.{nat_tests}
 use Rattle.std.specs.List.{flat_map}
 use Rattle.boxes.specs.Codes.{page_code, phdr_code, res_code, lobj_code}
-use Rattle.boxes.specs.Tests.{unless, first_failure}
-use Rattle.boxes.specs.declared.reason.Reason.TheVariants.{Misplaced, TooManyObjects, Miscounted}
+use Rattle.boxes.specs.Tests.{first_failure}
 use Rattle.boxes.specs.declared.table.Kind.TheVariants as kinds
 use Rattle.boxes.specs.declared.table.Place.TheVariants as places
 use Rattle.plan.specs.Headers.{page_header_tests, style_number}
@@ -13,7 +12,6 @@ use Rattle.plan.specs.Laws.{named, has_id, distinct_ids, sized_page, whole_resol
 use Rattle.plan.specs.Page.{Page}
 use Rattle.plan.specs.declared.headers.PageHead.{PageHead}
 use Rattle.plan.specs.declared.layout.Objects.{Objects}
-use Rattle.plan.specs.declared.layout.Objects.TheVariants.{Separate, Both, Image, Mask}
 use Rattle.plan.specs.declared.layout.Row.{Row}
 use Rattle.plan.specs.declared.page.Collection.{Collection}
 use Rattle.plan.specs.declared.page.PageHeader.{PageHeader}
@@ -32,25 +30,18 @@ use Rattle.roundtrip.proofs.Objects.{resolution_read, row_read_lem}
 -- among rows with distinct identifiers, those before a row do not have its identifier
 pub new_id : (done : List Row) (row : Row) (rows : List Row) → distinct_ids (done ++ (row ∷ rows)) ≡ true → has_id row.layout.lobjid done ≡ false
 new_id [] row rows distinct = refl
-new_id (d ∷ done) row rows distinct =
-    let p = and_parts (not (has_id d.layout.lobjid (done ++ (row ∷ rows)))) (distinct_ids (done ++ (row ∷ rows))) distinct in
-    let apart = not_named d.layout.lobjid done row rows (not-true _ p.0) in
-    or_from (named row.layout.lobjid d) (has_id row.layout.lobjid done) (ne_eqb _ _ (λ same. eqb-false _ _ apart (sym same))) (new_id done row rows p.1)
+new_id (d ∷ done) row rows distinct = grind (arith, nat_tests, new_id done row rows, not_named d.layout.lobjid done row rows)
   where
     not_named : (id : ℕ) (done : List Row) (row : Row) (rows : List Row) → has_id id (done ++ (row ∷ rows)) ≡ false → named id row ≡ false
-    not_named id [] row rows e = (or_parts (named id row) (has_id id rows) e).0
-    not_named id (d ∷ done) row rows e = not_named id done row rows (or_parts (named id d) (has_id id (done ++ (row ∷ rows))) e).1
+    not_named id [] row rows e = grind (arith, nat_tests)
+    not_named id (d ∷ done) row rows e = grind (arith, nat_tests, not_named id done row rows)
 
 -- the size of a lobj box
 objcs-size : (os : Objects) → length (objcs os) ≤ 88
-objcs-size (Separate mask image) = omega arith
-objcs-size (Both object) = omega arith
-objcs-size (Image object) = omega arith
-objcs-size (Mask object) = omega arith
+objcs-size os = grind arith
 
 collection_size : (c : Option Collection) → length (collection_bytes c) ≤ 14
-collection_size None = omega arith
-collection_size (Some c) = omega arith
+collection_size c = grind arith
 
 phdr-size : (h : PageHeader) (n : ℕ) → length (phdr_contents h n) ≤ 30
 phdr-size h n = let m = collection_size h.collection in omega arith
@@ -86,8 +77,8 @@ module _ (h : Option PageHead) (r : Option Resolution) where
       let again : (done ++ (row ∷ [])) ++ rows ≡ done ++ (row ∷ rows) = append_assoc done (row ∷ []) rows in
       let l = length-append done (row ∷ []) in
       walk-box lobj_code contents (flat_map lobj rows) (lit< tt) fits page_rules at false (page_state h r done) (page_state h r (done ++ (row ∷ []))) _ refl
-      (ap (λ b. unless b TooManyObjects (unless b Misplaced None)) (lt-leb 64 (length done) room)) (row-taken done row f.0 room new at (at + 8))
-      ∙ rows_walked (done ++ (row ∷ [])) rows f.1 (ap distinct_ids again ∙ distinct) (omega arith) (at + (8 + length contents))
+      (grind (arith, nat_tests)) (row-taken done row (f 0 row (omega arith)) room new at (at + 8))
+      ∙ rows_walked (done ++ (row ∷ [])) rows (λ k d below. f (suc k) d (omega arith)) (ap distinct_ids again ∙ distinct) (omega arith) (at + (8 + length contents))
       ∙ ap (λ x. Ok (page_state h r x)) again
 
 -- a whole page
@@ -121,7 +112,7 @@ module _ (p : Page) (f : PageFits p) (sized : sized_page p.header ≡ true) (who
       ∙ rows_walked (Some head) (Some p.resolution) [] p.rows f.rows distinct (omega arith) (next + 26)
 
   page-ends : first_failure (end_tests page_rules (page_state (Some head) (Some p.resolution) p.rows)) ≡ None
-  page-ends = ap₂ (λ a b. unless (a || false) Misplaced (unless (not b) Miscounted None)) (le-ltb count 0 (omega arith)) (eq-eqb count count refl)
+  page-ends = grind (arith, nat_tests)
 
   page-read : (at body : ℕ) → superbox page_rules at body (page_contents p) new_page ≡ Ok (page_state (Some head) (Some p.resolution) p.rows)
   page-read at body = superbox_passes page_rules at body (page_contents p) new_page (page_state (Some head) (Some p.resolution) p.rows) (page-walked body) page-ends

@@ -8,7 +8,7 @@ use Rattle.plan.specs.contracts.lawful.Plan as plans
 use Rattle.plan.specs.contracts.layout.Row as rows
 use Rattle.plan.specs.contracts.page.PageHeader as headers
 use Rattle.plan.specs.contracts.page.Resolution as resolutions
-use Rattle.plan.proofs.Rows.{length-used}
+use Rattle.plan.proofs.Rows.{count-rows}
 use Rattle.reader.specs.Reading.{page_at}
 use Rattle.reader.specs.declared.read.Refusal.{Refusal}
 use Rattle.writer.specs.Written.{written}
@@ -22,9 +22,7 @@ ok_same e = cc
 module _ (p q : Plan) (same : page_of p ≡ page_of q) where
   same_count : p.count ≡ q.count
   same_count =
-      length-used p.rows p.count (omega (arith, p.few, p.places))
-      ∙ ap (λ x. length x.rows) same
-      ∙ sym (length-used q.rows q.count (omega (arith, q.few, q.places)))
+      count-rows p ∙ ap (λ x. length x.rows) same ∙ sym (count-rows q)
 
   same_rows : p.rows ≡ q.rows
   same_rows =
@@ -32,8 +30,8 @@ module _ (p q : Plan) (same : page_of p ≡ page_of q) where
       ∙ ap₂ (λ a b. a ++ b) (ap (λ x. x.rows) same) (p.blank ∙ ap (λ n. replicate (64 - n) blank_row) same_count ∙ sym q.blank)
       ∙ take-append-drop q.count q.rows
 
-  pub same-plan : p ≡ q
-  same-plan =
+  pub same_plan : p ≡ q
+  same_plan =
       values_one plans.struct (plans.the_propositions (headers.the_row).coded (resolutions.the_row).coded (rows.the_row).coded) p q
       (λ i. ((same i).header, ((same i).resolution, (same_rows i, (same_count i, tt)))))
 
@@ -41,7 +39,7 @@ module _ (p q : Plan) (same : page_of p ≡ page_of q) where
 module _ (p : Plan) (fits : PageFits (page_of p)) where
   read_back : ReadsBack p
   read_back =
-      let used = length-used p.rows p.count (omega (arith, p.few, p.places)) in
+      let used = count-rows p in
       reads_back (page_of p) fits p.sized p.whole (omega (arith, p.few)) p.distinct
 
 module _ (p : Plan) (fits : PageFits (page_of p)) where
@@ -51,7 +49,7 @@ module _ (p : Plan) (fits : PageFits (page_of p)) where
       ap written (sym (ok_same same)) ∙ sym is
 
   one_form : OneForm p
-  one_form q other same = same-plan q p (ok_same (sym (read_back q other) ∙ ap (page_at 0) same ∙ read_back p fits))
+  one_form q other same = same_plan q p (ok_same (sym (read_back q other) ∙ ap (page_at 0) same ∙ read_back p fits))
 
   pub round_trip : RoundTrip p
   round_trip = record { reads_back = read_back p fits; writes_back = write-back; one_form = one_form }

@@ -1,5 +1,5 @@
 -- The fields of a page as numbers of their widths, as they are in every plan that a program holds. Assumes nothing.
-use Rattle.std.specs.Prelude.{ℕ, ◌^◌, ◌<◌, List, [], ◌∷◌, Some, None, Option, FitsSigned}
+use Rattle.std.specs.Prelude.{ℕ, ◌^◌, ◌<◌, List, All, Some, None, Option, FitsSigned}
 use Rattle.std.specs.Int.{w8}
 use Rattle.plan.specs.Page.{Page}
 use Rattle.plan.specs.declared.layout.Layout.{Layout}
@@ -75,8 +75,7 @@ pub record RowFits (r : Row) : Type 0 where
 
 -- each of some rows
 abbrev pub RowsFit : List Row → Type 0
-RowsFit [] = Unit {0}
-RowsFit (r ∷ rs) = RowFits r × RowsFit rs
+RowsFit rows = All RowFits rows
 
 -- a page
 pub record PageFits (p : Page) : Type 0 where

@@ -1,2 +1,2 @@
+pub mod Boxed
 pub mod Puts
-pub mod Sizes

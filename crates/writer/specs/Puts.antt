@@ -1,5 +1,7 @@
 -- Bytes that are put into a buffer, and the answer of writing a page. Assumes nothing.
-use Rattle.std.specs.Prelude.{ℕ, ◌+◌, Bool, cond, List, ◌++◌, length, take, drop, Ok, Err, Result, nat_le}
+use Rattle.std.specs.Prelude.{◌≡◌, ℕ, ◌+◌, ◌≤◌, Bool, cond, List, ◌++◌, length, take, drop, Ok, Err, Result, codes, nat_le}
+use Rattle.std.specs.Fmt.{decimal}
+use Rattle.writer.specs.declared.buffer.Cursor.{Cursor}
 use Rattle.writer.specs.declared.refused.Refused.{Refused}
 use Rattle.writer.specs.declared.refused.Refused.TheVariants.{BufferTooShort}
 
@@ -7,9 +9,23 @@ use Rattle.writer.specs.declared.refused.Refused.TheVariants.{BufferTooShort}
 abbrev pub refused_number : Refused → ℕ
 refused_number BufferTooShort = 25
 
+-- how one is printed
+abbrev pub refused_text : Refused → List ℕ
+refused_text refused = codes "refused " ++ decimal (refused_number refused)
+
 -- a buffer with some bytes in place of what it had from a place on
 unfoldable pub put : List ℕ → ℕ → List ℕ → List ℕ
 put buffer at bytes = take at buffer ++ (bytes ++ drop (at + length bytes) buffer)
+
+-- a cursor has room for some bytes
+abbrev pub HasRoom : Cursor → List ℕ → Type 0
+HasRoom cursor bytes = cursor.at + length bytes ≤ length cursor.out.now
+
+-- a cursor has put some bytes into its buffer, and stands after them
+pub record Puts (old new : Cursor) (bytes : List ℕ) : Type 0 where
+  pub same_buffer : new.out.ghost_name ≡ old.out.ghost_name
+  pub at : new.at ≡ old.at + length bytes
+  pub buffer : new.out.now ≡ put old.out.now old.at bytes
 
 -- a buffer has room for some bytes
 abbrev pub room : List ℕ → List ℕ → Bool

@@ -1,11 +1,10 @@
 // The fields of a box, written one after the other.
-ghost use Rattle.std.specs.Prelude.{◌≡◌, ◌+◌, ◌≤◌, length};
 ghost use Rattle.writer.specs.Fields.{field_bytes, fields_bytes};
-ghost use Rattle.writer.specs.Puts.{put};
+ghost use Rattle.writer.specs.Puts.{HasRoom, Puts};
 
-use crate::buffer::put_bytes;
+use crate::buffer::Cursor;
 
-// A number, with a case for each width that a field can have.
+// A number, with a case for each width that a field can have, so that fields of several widths stand in one list.
 #[derive(Clone, Copy)]
 pub(crate) enum Field {
     One(u8),
@@ -14,29 +13,28 @@ pub(crate) enum Field {
     Eight(u64),
 }
 
-// Writes one field at a place, and answers the place after it.
-fn put_field(out: &mut [u8], at: usize, field: Field) -> usize
-    requires { at + length (field_bytes field) ≤ length out.old }
-    ensures value { result ≡ at + length (field_bytes field) }
-    ensures buffer { out.new ≡ put out.old at (field_bytes field) }
-{
-    match field {
-        Field::One(number) => put_bytes(out, at, &number.to_be_bytes()),
-        Field::Two(number) => put_bytes(out, at, &number.to_be_bytes()),
-        Field::Four(number) => put_bytes(out, at, &number.to_be_bytes()),
-        Field::Eight(number) => put_bytes(out, at, &number.to_be_bytes()),
+impl Cursor<'_> {
+    // Writes one field.
+    fn put_field(&mut self, field: Field)
+        requires { HasRoom self.old (field_bytes field) }
+        ensures { Puts self.old self.new (field_bytes field) }
+    {
+        // Four arms, since the number has another type in each.
+        match field {
+            Field::One(number) => self.put(&number.to_be_bytes()),
+            Field::Two(number) => self.put(&number.to_be_bytes()),
+            Field::Four(number) => self.put(&number.to_be_bytes()),
+            Field::Eight(number) => self.put(&number.to_be_bytes()),
+        }
     }
-}
 
-// Writes fields in their order from a place on, and answers the place after them.
-pub(crate) fn put_fields(out: &mut [u8], at: usize, fields: &[Field]) -> usize
-    requires { at + length (fields_bytes fields.now) ≤ length out.old }
-    ensures value { result ≡ at + length (fields_bytes fields.now) }
-    ensures buffer { out.new ≡ put out.old at (fields_bytes fields.now) }
-{
-    let mut next = at;
-    for field in fields {
-        next = put_field(out, next, *field);
+    // Writes fields in their order.
+    pub(crate) fn put_fields(&mut self, fields: &[Field])
+        requires { HasRoom self.old (fields_bytes fields.now) }
+        ensures { Puts self.old self.new (fields_bytes fields.now) }
+    {
+        for field in fields {
+            self.put_field(*field);
+        }
     }
-    next
 }

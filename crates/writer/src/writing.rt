@@ -1,12 +1,13 @@
 // A plan, written as one page box.
 ghost use Rattle.std.specs.Prelude.{◌≡◌, ◌≤◌, length, take, IfOk};
 ghost use Rattle.plan.specs.Page.{page_of};
-ghost use Rattle.writer.specs.Puts.{put, write_answer, write_buffer};
+ghost use Rattle.writer.specs.Puts.{HasRoom, Puts, write_answer, write_buffer};
 ghost use Rattle.writer.specs.Written.{written, page_size};
 
-use crate::headers::{page_header_size, put_box_header, put_page_header, put_resolution};
+use crate::buffer::Cursor;
+use crate::headers::page_header_size;
 use crate::refused::Refused;
-use crate::rows::{put_rows, rows_size};
+use crate::rows::rows_size;
 use boxes::codes::PAGE;
 use plan::lawful::Plan;
 
@@ -22,6 +23,7 @@ pub fn written_size(plan: &Plan) -> usize
 }
 
 // The same as the page box's length says it: its header, the phdr box, the res box of 26 bytes and the lobj boxes.
+#[tactic(auto, unfolding(crate::specs::Written::written))]
 fn page_size(plan: &Plan) -> u32
     ensures value { result ≡ length (written (page_of plan.now)) }
     ensures parts { result ≡ page_size (page_of plan.now) }
@@ -32,6 +34,7 @@ fn page_size(plan: &Plan) -> u32
 
 // Writes the plan at the front of the buffer as one page box in the written form, and answers how many bytes that is.
 // The rest of the buffer stays as it was. Refused where the buffer is too short, with all of it as it was.
+#[tactic(auto, using(crate::proofs::Puts::front_written))]
 pub fn write(plan: &Plan, out: &mut [u8]) -> Result<usize, Refused>
     ensures answer { result ≡ write_answer out.old (written (page_of plan.now)) }
     ensures buffer { out.new ≡ write_buffer out.old (written (page_of plan.now)) }
@@ -41,19 +44,22 @@ pub fn write(plan: &Plan, out: &mut [u8]) -> Result<usize, Refused>
     if out.len() < size as usize {
         return Err(Refused::BufferTooShort);
     }
-    Ok(put_page(out, plan, size))
+    let mut cursor = Cursor::new(out);
+    cursor.put_page(plan, size);
+    Ok(size as usize)
 }
 
-// The page box of a plan, whose length is known, at the front of a buffer. Answers the place after it.
-fn put_page(out: &mut [u8], plan: &Plan, size: u32) -> usize
-    requires { (size ≡ page_size (page_of plan.now)) × (size ≤ length out.old) }
-    ensures value { result ≡ size }
-    ensures buffer { out.new ≡ put out.old 0 (written (page_of plan.now)) }
-    ensures front { take result out.new ≡ written (page_of plan.now) }
-{
-    let count = plan.count as u16;
-    let next = put_box_header(out, 0, size, PAGE);
-    let next = put_page_header(out, next, plan.header, count);
-    let next = put_resolution(out, next, plan.resolution);
-    put_rows(out, next, plan)
+impl Cursor<'_> {
+    // The page box of a plan, whose length is known.
+    #[tactic(auto, unfolding(crate::specs::Written::written))]
+    fn put_page(&mut self, plan: &Plan, size: u32)
+        requires size { size ≡ length (written (page_of plan.now)) }
+        requires room { HasRoom self.old (written (page_of plan.now)) }
+        ensures { Puts self.old self.new (written (page_of plan.now)) }
+    {
+        self.put_box_header(size, PAGE);
+        self.put_page_header(plan.header, plan.count() as u16);
+        self.put_resolution(plan.resolution);
+        self.put_rows(plan.rows());
+    }
 }

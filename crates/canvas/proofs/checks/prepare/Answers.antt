@@ -6,15 +6,10 @@ use Rattle.canvas.specs.Views.{check_answer}
 use Rattle.canvas.proofs.Opening.{memory-is}
 use Rattle.canvas.proofs.checks.prepare.Goals as goal
 
-pub returns : goal.returns
-returns g c =
+pub returns-clause-cells : goal.returns-clause-cells
+returns-clause-cells g c =
     let memory = c.args.memory.now in
     let colour = c.args.colour in
-    let area = c.frame_of-frame.ensures.area in
-    record {
-      area = area;
-      cells =
-          c.clear.ensures.cells
-          ∙ ap (λ a. changed a a (fresh colour) memory) area
-          ∙ memory-is colour c.args.rectangle memory (check_answer (page_of c.args.plan.now) c.args.rectangle (length memory));
-    }
+    c.clear.ensures.cells
+    ∙ ap (λ a. changed a a (fresh colour) memory) c.frame_of-frame.ensures.area
+    ∙ memory-is colour c.args.rectangle memory (check_answer (page_of c.args.plan.now) c.args.rectangle (length memory))

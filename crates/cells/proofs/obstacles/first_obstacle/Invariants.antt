@@ -1,31 +1,25 @@
 use Rattle.std.proofs.Common.{◌≡◌, None}
-use Rattle.raster.specs.Touches.{touch_at}
 use Rattle.cells.specs.Gathers.{or_else}
 use Rattle.cells.specs.Passes.{out_of_turn, missing}
-use Rattle.cells.specs.Windows.{index_at}
+use Rattle.cells.proofs.Lines.{Seeks}
 use Rattle.cells.proofs.Passing.{Joins}
 use Rattle.cells.proofs.obstacles.first_obstacle.Given as goal
 
-abbrev pub invariant-loop-column : goal.invariant-loop-column
-invariant-loop-column g l =
-    let area = l.pane.area in
-    let window = l.pane.window in
-    let at = index_at area l.column l.row in
-    let start = index_at area l.initial.column l.row in
-    let touch = touch_at l.place (g.M.Source.meaning l.mask) (g.I.Source.meaning l.image) in
-    Joins or_else None area window (out_of_turn l.k) at l.cells None start l.initial.cells None
-    × Joins or_else None area window (missing l.k touch) at l.cells l.lacking start l.initial.cells l.initial.lacking
-    × (l.cells ≡ l.initial.cells)
-    × (l.early ≡ None)
+abbrev pub invariant-loop-i : goal.invariant-loop-i
+invariant-loop-i g l =
+    let left = l.pane.window.left in
+    record {
+      early : Seeks or_else None (λ column. out_of_turn l.k column l.row) left l.cell-items l.i None None;
+      lacking : Seeks or_else None (λ column. missing l.k (g.L.Touching.touch l.layer) column l.row) left l.cell-items l.i l.lacking l.initial.lacking;
+      none : l.early ≡ None;
+    }
 
 abbrev pub invariant-rows : goal.invariant-rows
 invariant-rows g l =
     let area = l.pane.area in
     let window = l.pane.window in
-    let at = index_at area window.left l.row in
-    let start = index_at area window.left l.initial.row in
-    let touch = touch_at l.place (g.M.Source.meaning l.mask) (g.I.Source.meaning l.image) in
-    Joins or_else None area window (out_of_turn l.k) at l.cells None start l.initial.cells None
-    × Joins or_else None area window (missing l.k touch) at l.cells l.lacking start l.initial.cells l.initial.lacking
-    × (l.cells ≡ l.initial.cells)
-    × (l.early ≡ None)
+    record {
+      early : Joins or_else None area window (out_of_turn l.k) l.row l.cells None l.cells;
+      lacking : Joins or_else None area window (missing l.k (g.L.Touching.touch l.layer)) l.row l.cells l.lacking l.cells;
+      none : l.early ≡ None;
+    }

@@ -1,7 +1,9 @@
-use Rattle.std.proofs.Common.{◌≡◌, ◌<◌, ◌≤◌, length, ap, arith}
-use Rattle.cells.proofs.Places.{Held, granted-from}
-use Rattle.cells.proofs.Passing.{sums_none, sums_same, sums-row, sums-whole}
-use Rattle.cells.proofs.Showing.{writes-none, writes-next, writes-row, writes-whole, whole-window}
+use Rattle.std.proofs.Common.{◌≡◌, ◌<◌, ◌≤◌, length, refl, ap, ◌∙◌, arith}
+use Rattle.raster.specs.Shown.{put}
+use Rattle.cells.proofs.Lines.{span_is}
+use Rattle.cells.proofs.Places.{granted-from}
+use Rattle.cells.proofs.Passing.{few_cells, sums-none, sums_same, sums-whole}
+use Rattle.cells.proofs.Showing.{written_none, written_next, written_all, next_fits, whole-window, next_row, nothing_left}
 use Rattle.cells.proofs.shows.write_cells.Goals as goal
 
 pub loop-row-init : goal.loop-row-init
@@ -9,35 +11,37 @@ loop-row-init g c =
     let pane = c.args.pane in
     let ok = granted-from pane.area pane.window pane.passes in
     let long = ap length (whole-window g.C.Colour.shown pane.area pane.window ok c.args.cells.now) in
-    (writes-none _ _ _ _ _ _ _ (omega (arith, c.requires)), sums_none _ _ _ _ _ _ (omega arith))
+    record { written = written_none _ _ _ _ refl (omega (arith, c.requires)); finished = sums-none pane.area pane.window _ ok _ }
 
-pub loop-column-init : goal.loop-column-init
-loop-column-init g c = (writes-none _ _ _ _ _ _ _ c.loop-row.invariant.0.room, sums_none _ _ _ _ _ _ c.loop-row.invariant.1.bound)
-
-pub overflow_add-finished : goal.overflow_add-finished
-overflow_add-finished g c = omega (arith, c.loop-column.invariant.1.bound, c.index_of.ensures.value, c.index_of.ensures.bound)
-
-pub loop-column-preserved : goal.loop-column-preserved
-loop-column-preserved g c =
+pub show_row-next-requires : goal.show_row-next-requires
+show_row-next-requires g c =
     let pane = c.args.pane in
     let ok = granted-from pane.area pane.window pane.passes in
-    let held : Held pane.window c.loop-column.column c.loop-row.row = omega arith in
-    let is = c.index_of.ensures.value in
-    let done = c.show_one-next.ensures in
-    let few : c.show_one-next.result.1 < 65536 = omega (arith, done.bound) in (
-      writes-next g.C.Colour.shown pane.area pane.window ok _ _ held _ is _ _ _ _ _ _ _ _ _ _ done.buffer done.next done.same c.loop-column.invariant.0,
-      sums_same pane.area pane.window _ ok _ _ held _ is _ _ _ _ _ _ _ done.finished few done.same c.loop-column.invariant.1,
-    )
+    let row = c.loop-row.row in
+    let cells = c.args.cells.now in
+    let top : pane.window.top ≤ row = omega arith in
+    let is = span_is cells _ _ _ _ c.row_span-span.ensures.from c.row_span-span.ensures.to in
+    let parts = next_row g.C.Colour.shown pane.area pane.window ok _ top c.loop-row-test.true cells _ is in
+    record {
+      few = omega (arith, few_cells pane.area pane.window row cells _ is, pane.narrow, ok.across.begins, ok.across.ends);
+      room = next_fits _ _ _ _ _ _ c.loop-row.invariant.written _ _ parts;
+    }
 
 pub loop-row-preserved : goal.loop-row-preserved
 loop-row-preserved g c =
     let pane = c.args.pane in
     let ok = granted-from pane.area pane.window pane.passes in
-    let edge : c.loop-column.column ≡ pane.window.right = omega (arith, ok.across.runs) in
-    let top : pane.window.top ≤ c.loop-row.row = omega arith in (
-      writes-row g.C.Colour.shown pane.area pane.window ok _ _ edge top _ _ _ _ _ _ _ _ _ _ _ c.loop-row.invariant.0 c.loop-column.invariant.0,
-      sums-row pane.area pane.window _ ok _ _ edge top _ _ _ _ _ _ _ _ c.loop-row.invariant.1 c.loop-column.invariant.1,
-    )
+    let row = c.loop-row.row in
+    let cells = c.args.cells.now in
+    let top : pane.window.top ≤ row = omega arith in
+    let bottom : row < pane.window.bottom = omega arith in
+    let is = span_is cells _ _ _ _ c.row_span-span.ensures.from c.row_span-span.ensures.to in
+    let done = c.show_row-next.ensures in
+    let parts = next_row g.C.Colour.shown pane.area pane.window ok _ top bottom cells _ is in
+    record {
+      written = written_next _ _ _ _ _ _ c.loop-row.invariant.written _ _ parts _ _ done.buffer done.next;
+      finished = sums_same pane.area pane.window _ ok (λ column n. refl) row top bottom cells _ is _ _ _ done.answer (omega arith) c.loop-row.invariant.finished;
+    }
 
 pub returns : goal.returns
 returns g c =
@@ -45,7 +49,8 @@ returns g c =
     let ok = granted-from pane.area pane.window pane.passes in
     let edge : c.loop-row.row ≡ pane.window.bottom = omega (arith, ok.down.runs) in
     record {
-      answer = sums-whole pane.area pane.window _ ok _ edge _ _ _ c.loop-row.invariant.1;
-      buffer = writes-whole g.C.Colour.shown pane.area pane.window ok _ edge _ _ _ _ _ c.loop-row.invariant.0;
-      same = c.loop-row.invariant.0.same;
+      answer = sums-whole pane.area pane.window _ ok _ edge _ _ _ c.loop-row.invariant.finished;
+      buffer =
+          (written_all _ _ _ _ _ _ c.loop-row.invariant.written (nothing_left g.C.Colour.shown pane.area pane.window ok _ edge _)).0
+          ∙ ap (put c.args.buffer.now 0) (whole-window g.C.Colour.shown pane.area pane.window ok _);
     }

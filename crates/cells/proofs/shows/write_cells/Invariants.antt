@@ -1,23 +1,14 @@
 use Rattle.cells.specs.Passes.{at_level}
-use Rattle.cells.specs.Windows.{index_at}
 use Rattle.cells.proofs.Passing.{Sums}
-use Rattle.cells.proofs.Showing.{Writes}
+use Rattle.cells.proofs.Showing.{Written, to_show}
 use Rattle.cells.proofs.shows.write_cells.Given as goal
-
-abbrev pub invariant-loop-column : goal.invariant-loop-column
-invariant-loop-column g l =
-    let area = l.pane.area in
-    let window = l.pane.window in
-    let at = index_at area l.column l.row in
-    let start = index_at area l.initial.column l.row in
-    Writes g.C.Colour.shown area window at l.cells l.buffer l.to start l.initial.cells l.initial.buffer l.initial.to
-    × Sums area window (at_level l.full) at l.cells l.finished start l.initial.cells l.initial.finished
 
 abbrev pub invariant-loop-row : goal.invariant-loop-row
 invariant-loop-row g l =
+    let shown = g.C.Colour.shown in
     let area = l.pane.area in
     let window = l.pane.window in
-    let at = index_at area window.left l.row in
-    let start = index_at area window.left l.initial.row in
-    Writes g.C.Colour.shown area window at l.cells l.buffer l.to start l.initial.cells l.initial.buffer l.initial.to
-    × Sums area window (at_level l.full) at l.cells l.finished start l.initial.cells l.initial.finished
+    record {
+      written : Written (to_show shown area window l.row l.cells) l.buffer l.to (to_show shown area window l.initial.row l.cells) l.initial.buffer l.initial.to;
+      finished : Sums area window (at_level l.full) l.row l.cells l.finished l.cells;
+    }

@@ -1,6 +1,5 @@
-use Rattle.std.proofs.Common.{◌≡◌, ℕ, true, false, cond, List, Some, Ok, Option, sym, ap, ◌∙◌, ap₂}
+use Rattle.std.proofs.Common.{◌≡◌, ℕ, true, false, List, Some, Ok, Err, Option, sym, ap, ◌∙◌, ap₂, rules}
 use Rattle.std.proofs.lemmas.Bool.{cond-true, cond-false}
-use Rattle.raster.specs.Touches.{touch_at}
 use Rattle.raster.specs.declared.touches.Touch.{Touch}
 use Rattle.cells.specs.Gathers.{first, or_else, total, changed}
 use Rattle.cells.specs.Outcomes.{in_the_way, lay_counts, laid_cells}
@@ -18,57 +17,50 @@ module _ {C : Type 0} (k : ℕ) (touch : ℕ → ℕ → Touch C) (area window :
   refused no-grant = sym (cond-false (granted area window) _ _ no-grant)
 
   -- a pane's area and window are the frame's and the caller's
-  tested : (a w : Rectangle) → a ≡ area → w ≡ window → granted a w ≡ true → (o : Option Refusal) →
+  tested : (a w : Rectangle) → a ≡ area → w ≡ window → granted area window ≡ true → (o : Option Refusal) →
       o ≡ or_else (first a w (out_of_turn k) cells) (first a w (missing k touch) cells) → o ≡ in_the_way k touch area window cells
   unfolding in_the_way
   tested a w ea ew grant o is =
       is
-      ∙ sym (cond-true (granted a w) _ (Some Window) grant)
-      ∙ ap₂ (λ x y. cond (granted x y) (or_else (first x y (out_of_turn k) cells) (first x y (missing k touch) cells)) (Some Window)) ea ew
+      ∙ ap₂ (λ x y. or_else (first x y (out_of_turn k) cells) (first x y (missing k touch) cells)) ea ew
+      ∙ sym (cond-true (granted area window) _ (Some Window) grant)
 
-pub returns-in_default : goal.returns-in_default
-returns-in_default g c =
-    let touch = touch_at c.args.place (g.M.Source.meaning c.args.mask.now) (g.I.Source.meaning c.args.image.now) in
+pub returns-in_err-pane : goal.returns-in_err-pane
+returns-in_err-pane g c =
     let area = c.args.frame.area in
     let cells = c.args.cells.now in
-    let way = refused c.args.k touch area c.args.window cells c.in_default.ensures.answer in
+    let way = refused c.args.k (g.L.Touching.touch c.args.layer.now) area c.args.window cells c.in_err-pane.ensures.answer.0 in
+    let is : c.from_residual.result ≡ Err Window = search rules in
+    record {
+      answer = is ∙ ap (lay_counts c.args.k area c.args.window cells) way;
+      cells = ap (laid_cells g.C.Colour.blended c.args.k (g.L.Touching.touch c.args.layer.now) area c.args.window cells) way;
+    }
+
+pub returns-in-Some : goal.returns-in-Some
+returns-in-Some g c =
+    let touch = g.L.Touching.touch c.args.layer.now in
+    let area = c.args.frame.area in
+    let cells = c.args.cells.now in
+    let is = c.in_ok-pane.ensures.answer in
+    let way = tested c.args.k touch area c.args.window cells _ _ is.1 is.2 is.0 _ c.in-Some.ensures.answer in
     record {
       answer = ap (lay_counts c.args.k area c.args.window cells) way;
       cells = ap (laid_cells g.C.Colour.blended c.args.k touch area c.args.window cells) way;
     }
 
-pub returns-in-Some-first_obstacle : goal.returns-in-Some-first_obstacle
-returns-in-Some-first_obstacle g c =
-    let touch = touch_at c.args.place (g.M.Source.meaning c.args.mask.now) (g.I.Source.meaning c.args.image.now) in
+pub returns-in-None : goal.returns-in-None
+returns-in-None g c =
+    let touch = g.L.Touching.touch c.args.layer.now in
+    let k = c.args.k in
     let area = c.args.frame.area in
+    let window = c.args.window in
     let cells = c.args.cells.now in
-    let pane = c.in-Some.pane in
-    let is = c.in-Some.ensures.answer in
-    let way = sym c.in-Some-first_obstacle.is
-    ∙ tested c.args.k touch area c.args.window cells pane.area pane.window is.0 is.1 pane.passes c.first_obstacle.result c.first_obstacle.ensures.answer in
+    let is = c.in_ok-pane.ensures.answer in
+    let way = tested k touch area window cells _ _ is.1 is.2 is.0 _ c.in-None.ensures.answer in
+    let up = c.lay_cells.ensures.raised ∙ ap₂ (λ a w. total a w (at_level k) cells) is.1 is.2 in
+    let over = c.lay_cells.ensures.passed ∙ ap₂ (λ a w. total a w (above_level k) cells) is.1 is.2 in
+    let lay = laid_cell g.C.Colour.blended k touch in
     record {
-      answer = ap (lay_counts c.args.k area c.args.window cells) way;
-      cells = c.first_obstacle.ensures.same ∙ ap (laid_cells g.C.Colour.blended c.args.k touch area c.args.window cells) way;
-    }
-
-pub returns : goal.returns
-returns g c =
-    let touch = touch_at c.args.place (g.M.Source.meaning c.args.mask.now) (g.I.Source.meaning c.args.image.now) in
-    let area = c.args.frame.area in
-    let cells = c.args.cells.now in
-    let pane = c.in-Some.pane in
-    let is = c.in-Some.ensures.answer in
-    let same = c.first_obstacle.ensures.same in
-    let way = sym c.in_default-first_obstacle.is
-    ∙ tested c.args.k touch area c.args.window cells pane.area pane.window is.0 is.1 pane.passes c.first_obstacle.result c.first_obstacle.ensures.answer in
-    let up = c.lay_cells.ensures.raised ∙ ap (total pane.area pane.window (at_level c.args.k)) same ∙ ap₂ (λ a w. total a w (at_level c.args.k) cells) is.0 is.1 in
-    let over = c.lay_cells.ensures.passed ∙ ap (total pane.area pane.window (above_level c.args.k)) same ∙ ap₂ (λ a w. total a w (above_level c.args.k) cells) is.0 is.1 in
-    let lay = laid_cell g.C.Colour.blended c.args.k touch in
-    record {
-      answer = ap₂ (λ m n. Ok (m, n)) up over ∙ ap (lay_counts c.args.k area c.args.window cells) way;
-      cells =
-          c.lay_cells.ensures.cells
-          ∙ ap (changed pane.area pane.window lay) same
-          ∙ ap₂ (λ a w. changed a w lay cells) is.0 is.1
-          ∙ ap (laid_cells g.C.Colour.blended c.args.k touch area c.args.window cells) way;
+      answer = ap₂ (λ m n. Ok (m, n)) up over ∙ ap (lay_counts k area window cells) way;
+      cells = c.lay_cells.ensures.cells ∙ ap₂ (λ a w. changed a w lay cells) is.1 is.2 ∙ ap (laid_cells g.C.Colour.blended k touch area window cells) way;
     }

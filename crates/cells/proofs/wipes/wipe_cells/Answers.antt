@@ -1,38 +1,34 @@
-use Rattle.std.proofs.Common.{◌≡◌, ◌≤◌, arith}
-use Rattle.cells.specs.Passes.{fresh, level_of}
-use Rattle.cells.proofs.Places.{Held, granted-from}
-use Rattle.cells.proofs.Passing.{sums_none, sums_next, sums-row, sums-whole, changes-none, changes-next, changes-row, changes-whole}
+use Rattle.std.proofs.Common.{◌≡◌, ◌<◌, ◌≤◌, ℕ, sym, refl, ◌∙◌, arith}
+use Rattle.cells.specs.Passes.{fresh}
+use Rattle.cells.specs.declared.stored.Cell.{Cell}
+use Rattle.cells.proofs.Lines.{changed-map, span_is, span_put}
+use Rattle.cells.proofs.Places.{granted-from}
+use Rattle.cells.proofs.Passing.{sums-none, sums-line, sums-whole, changes-none, changes-line, changes-whole}
 use Rattle.cells.proofs.wipes.wipe_cells.Goals as goal
 
 pub loop-row-init : goal.loop-row-init
-loop-row-init g c = (sums_none _ _ _ _ _ _ (omega arith), changes-none _ _ _ _ _)
-
-pub loop-column-init : goal.loop-column-init
-loop-column-init g c = (sums_none _ _ _ _ _ _ c.loop-row.invariant.0.bound, changes-none _ _ _ _ _)
-
-pub overflow_add-levels : goal.overflow_add-levels
-overflow_add-levels g c = omega (arith, c.loop-column.invariant.0.bound, c.index_of.ensures.value, c.index_of.ensures.bound)
-
-pub loop-column-preserved : goal.loop-column-preserved
-loop-column-preserved g c =
+loop-row-init g c =
     let pane = c.args.pane in
     let ok = granted-from pane.area pane.window pane.passes in
-    let held : Held pane.window c.loop-column.column c.loop-row.row = omega arith in
-    let is = c.index_of.ensures.value in
-    let done = c.wipe_one-levels.ensures in (
-      sums_next pane.area pane.window level_of ok _ _ held _ is _ _ _ _ _ _ _ _ done.answer done.bound done.cells c.loop-column.invariant.0,
-      changes-next pane.area pane.window (fresh c.args.colour) ok _ _ held _ is _ _ _ _ done.cells c.loop-column.invariant.1,
-    )
+    record { levels = sums-none pane.area pane.window _ ok _; cells = changes-none pane.area pane.window _ ok _ }
 
 pub loop-row-preserved : goal.loop-row-preserved
 loop-row-preserved g c =
     let pane = c.args.pane in
     let ok = granted-from pane.area pane.window pane.passes in
-    let edge : c.loop-column.column ≡ pane.window.right = omega (arith, ok.across.runs) in
-    let top : pane.window.top ≤ c.loop-row.row = omega arith in (
-      sums-row pane.area pane.window level_of ok _ _ edge top _ _ _ _ _ _ _ _ c.loop-row.invariant.0 c.loop-column.invariant.0,
-      changes-row pane.area pane.window (fresh c.args.colour) ok _ _ edge top _ _ _ _ _ c.loop-row.invariant.1 c.loop-column.invariant.1,
-    )
+    let row = c.loop-row.row in
+    let cells = c.loop-row.cells in
+    let top : pane.window.top ≤ row = omega arith in
+    let bottom : row < pane.window.bottom = omega arith in
+    let is = span_is cells _ _ _ _ c.row_span-span.ensures.from c.row_span-span.ensures.to in
+    let F : ℕ → Cell g.row.C.Denot → Cell g.row.C.Denot = λ column. fresh c.args.colour column row in
+    let done = c.wipe_row.ensures in
+    let turned = span_put cells _ _ _ _ c.row_span-span.ensures.from c.row_span-span.ensures.to F pane.window.left _
+    (done.cells ∙ sym (changed-map (fresh c.args.colour 0 0) pane.window.left _)) in
+    record {
+      levels = sums-line pane.area pane.window _ ok (λ column n. refl) row top bottom cells _ is _ _ _ done.answer (omega arith) F _ turned c.loop-row.invariant.levels;
+      cells = changes-line pane.area pane.window _ ok row top bottom cells _ _ turned c.loop-row.invariant.cells;
+    }
 
 pub returns : goal.returns
 returns g c =
@@ -40,6 +36,6 @@ returns g c =
     let ok = granted-from pane.area pane.window pane.passes in
     let edge : c.loop-row.row ≡ pane.window.bottom = omega (arith, ok.down.runs) in
     record {
-      answer = sums-whole pane.area pane.window level_of ok _ edge _ _ _ c.loop-row.invariant.0;
-      cells = changes-whole pane.area pane.window (fresh c.args.colour) ok _ edge _ _ c.loop-row.invariant.1;
+      answer = sums-whole pane.area pane.window _ ok _ edge _ _ _ c.loop-row.invariant.levels;
+      cells = changes-whole pane.area pane.window _ ok _ edge _ _ c.loop-row.invariant.cells;
     }

@@ -1,14 +1,13 @@
-use Rattle.std.proofs.Common.{sym, ◌∙◌, arith}
-use Rattle.reader.proofs.Ids.{has_id-here, has_id-not-here, has_id-past}
+use Rattle.std.proofs.Common.{◌∙◌, rules}
+use borrow.Author.Tests.{tests}
+use Rattle.std.proofs.lemmas.Iterator.{YieldsList-from_slice}
+use Rattle.std.proofs.lemmas.Iterator.Search.{any_from_yields_List}
+use Rattle.plan.specs.Laws.{named}
+use Rattle.reader.proofs.Ids.{any_named}
 use Rattle.reader.proofs.layout_object.has_id.Goals as goal
 
-pub returns-then-row-id : goal.returns-then-row-id
-returns-then-row-id c =
-    record { value = sym (sym c.loop-row.invariant ∙ has_id-here c.args.id c.args.rows.now c.loop-row.row-index _ (omega arith) c.if-row-id.true) }
-
-pub loop-row-preserved : goal.loop-row-preserved
-loop-row-preserved c =
-    has_id-not-here c.args.id c.args.rows.now c.loop-row.row-index _ (omega arith) c.if-row-id.false ∙ c.loop-row.invariant
-
 pub returns : goal.returns
-returns c = record { value = sym (sym c.loop-row.invariant ∙ has_id-past c.args.id c.args.rows.now c.loop-row.row-index (omega arith)) }
+returns c =
+    record {
+      value = any_from_yields_List (named c.args.id) _ _ c.any.result c.any.ensures.ran (YieldsList-from_slice c.args.rows.now cc) (λ x b q k. search (rules, tests)) ∙ any_named c.args.id c.args.rows.now;
+    }

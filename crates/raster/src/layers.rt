@@ -1,0 +1,56 @@
+// A layout object with its mask and its image, as something that touches a page.
+ghost use Rattle.raster.specs.Touches.{touch_at};
+
+use crate::covers::Cover;
+use crate::scanlines::touch_along;
+use crate::scans::{Scan, scan_row};
+use crate::sources::Source;
+use crate::touches::{Placement, Touch, Touching, TouchingRow};
+
+// A layout object: where it stands, and the sources that its mask and its image are taken from.
+#[derive_where(Clone, Copy)]
+pub struct Layer<'a, M, I> {
+    pub place: Placement,
+    pub mask: &'a M,
+    pub image: &'a I,
+}
+
+// A layout object on one row of the page.
+#[derive_where(Clone, Copy)]
+pub struct LayerRow<'a, M, I> {
+    scan: Scan,
+    mask: &'a M,
+    image: &'a I,
+}
+
+impl<'a, M: Source<Sample = Cover>, I: Source> Touching for Layer<'a, M, I> {
+    type Colour = I::Sample;
+
+    type Row = LayerRow<'a, M, I>;
+
+    ghost touch = { λ l. touch_at l.place (M.Source.meaning l.mask.now) (I.Source.meaning l.image.now) };
+
+    fn on_row(&self, row: u32) -> LayerRow<'a, M, I> {
+        LayerRow {
+            scan: scan_row(self.place, row),
+            mask: self.mask,
+            image: self.image,
+        }
+    }
+}
+
+impl<'a, M: Source<Sample = Cover>, I: Source> TouchingRow for LayerRow<'a, M, I> {
+    type Colour = I::Sample;
+
+    ghost number = { λ l. l.scan.row };
+
+    ghost touch = { λ l. touch_at l.scan.place (M.Source.meaning l.mask.now) (I.Source.meaning l.image.now) };
+
+    fn number(&self) -> u32 {
+        self.scan.row
+    }
+
+    fn touched(&self, column: u32) -> Touch<I::Sample> {
+        touch_along(self.scan.line, self.mask, self.image, column as u64)
+    }
+}

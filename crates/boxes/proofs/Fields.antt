@@ -1,6 +1,6 @@
 -- The bytes at a place, by each of them. Assumes nothing.
-use Rattle.std.proofs.Common.{◌≡◌, ℕ, zero, suc, ◌+◌, ◌-◌, ◌<◌, ◌≤◌, List, [], ◌∷◌, length, get_or, take, drop, sym, refl, ap, ◌∙◌, add-zero, arith, length-drop, length-take, get_or-drop}
-use Rattle.std.proofs.lemmas.List.{get_or-take, take_all}
+use Rattle.std.proofs.Common.{◌≡◌, ℕ, zero, suc, ◌+◌, ◌-◌, ◌<◌, ◌≤◌, List, [], ◌∷◌, length, get_or, take, drop, sym, refl, ap, ◌∙◌, add-zero, arith, length-take, get_or-drop}
+use Rattle.std.proofs.lemmas.List.{get_or-take}
 use Rattle.std.specs.List.{slice_range}
 use Rattle.boxes.specs.Field.{part}
 
@@ -14,10 +14,8 @@ part-same (suc n) at bs (y ∷ ys) h f =
     let rest = part-same n (at + 1) bs ys (omega arith) (λ k l. f (suc k) (omega arith) ∙ ap (λ i. get_or bs i 0) (sym (next k))) in
     λ i. first i ∷ rest i
 
--- the first bytes of those from a place on
-pub part-take : (n at : ℕ) (bs rest : List ℕ) → n ≤ length rest → rest ≡ slice_range bs at (length bs) → take n rest ≡ part n at bs
-part-take n at bs rest h e =
+-- the first bytes of those from a place up to another
+pub part-take : (n at end : ℕ) (bs rest : List ℕ) → at + n ≤ end → n ≤ length rest → rest ≡ slice_range bs at end → take n rest ≡ part n at bs
+part-take n at end bs rest far h e =
     let l = length-take n rest in
-    let d = length-drop at bs in
-    let from = e ∙ take_all (length bs - at) (drop at bs) (omega arith) in
-    part-same n at bs (take n rest) (omega arith) (λ k lt. get_or-take n rest k 0 lt ∙ ap (λ r. get_or r k 0) from ∙ get_or-drop at bs k 0)
+    part-same n at bs (take n rest) (omega arith) (λ k lt. get_or-take n rest k 0 lt ∙ ap (λ r. get_or r k 0) e ∙ get_or-take (end - at) (drop at bs) k 0 (omega arith) ∙ get_or-drop at bs k 0)

@@ -1,5 +1,5 @@
 // A window of a canvas that has passed, and where its cells lie.
-ghost use Rattle.std.specs.Prelude.{◌≡◌, ◌+◌, ◌*◌, ◌^◌, ◌<◌, ◌≤◌, min, true};
+ghost use Rattle.std.specs.Prelude.{◌≡◌, ◌+◌, ◌*◌, ◌^◌, ◌<◌, ◌≤◌, min, nat_le, true};
 ghost use Rattle.cells.specs.Windows.{wide, high, granted, index_at};
 
 use crate::rectangles::Rectangle;
@@ -14,6 +14,13 @@ pub struct Pane {
 }
 
 impl Pane {
+    // Whether the window has no column, and so no cell, however many rows it has: then no row is gone through.
+    pub fn has_no_column(self) -> bool
+        ensures value { result ≡ nat_le self.window.right self.window.left }
+    {
+        self.window.right <= self.window.left
+    }
+
     // How many positions the window has.
     pub fn positions(self) -> usize
         ensures value { result ≡ wide self.window * high self.window }
@@ -31,7 +38,12 @@ impl Pane {
         ensures to { result.end ≡ min (index_at self.area self.window.left row + wide self.window) length }
     {
         let start = self.row_start(row);
-        start.min(length)..(start + self.window.columns() as usize).min(length)
+        let end = start + self.window.columns() as usize;
+        if end <= length {
+            start..end
+        } else {
+            clipped(start, end, length)
+        }
     }
 
     // Which cell lies at the left of a row of the window, for any row.
@@ -44,4 +56,15 @@ impl Pane {
         let across = self.window.left.saturating_sub(area.left) as usize;
         down * area.columns() as usize + across
     }
+}
+
+// What a length leaves of a span. A function of its own, which is not compiled into `row_span`: the memory nearly always has
+// all of a row's cells, and then a row of one cell costs no more than its cell.
+#[cold]
+#[inline(never)]
+fn clipped(start: usize, end: usize, length: usize) -> Range<usize>
+    ensures from { result.start ≡ min start length }
+    ensures to { result.end ≡ min end length }
+{
+    start.min(length)..end.min(length)
 }

@@ -4,6 +4,7 @@ ghost use Rattle.std.specs.List.{sum_by};
 ghost use Rattle.cells.specs.Gathers.{total};
 ghost use Rattle.cells.specs.Passes.{at_level, level_of};
 
+use crate::ones::at_level;
 use crate::panes::Pane;
 use crate::stored::Cell;
 
@@ -13,8 +14,13 @@ fn tally_row<C: Copy>(cells: &[Cell<C>], full: u16) -> (u32, u32)
     ensures finished { result.0 ≡ sum_by (at_level full 0 0) cells.now }
     ensures levels { result.1 ≡ sum_by (level_of 0 0) cells.now }
 {
-    let finished = cells.iter().filter(|cell| cell.level == full).count() as u32;
-    let levels = cells.iter().map(|cell| cell.level as u32).sum();
+    // Both in one pass: two chains would go through the cells twice.
+    let mut finished: u32 = 0;
+    let mut levels: u32 = 0;
+    for cell in cells {
+        finished += at_level(*cell, full);
+        levels += cell.level as u32;
+    }
     (finished, levels)
 }
 

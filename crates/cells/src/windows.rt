@@ -27,6 +27,9 @@ pub fn lay_window<C: Colour, L: Touching<Colour = C>>(
     ensures cells { cells.new ≡ laid_cells C.Colour.blended k (L.Touching.touch layer.now) frame.area window cells.old (in_the_way k (L.Touching.touch layer.now) frame.area window cells.old) }
 {
     let pane = frame.pane(window)?;
+    if pane.has_no_column() {
+        return Ok((0, 0));
+    }
     match first_obstacle(cells, pane, k, layer) {
         Some(refusal) => Err(refusal),
         None => Ok(lay_cells(cells, pane, k, layer)),
@@ -44,6 +47,9 @@ pub fn wipe_window<C: Copy>(
     ensures cells { cells.new ≡ wiped_cells colour frame.area window cells.old }
 {
     let pane = frame.pane(window)?;
+    if pane.has_no_column() {
+        return Ok(0);
+    }
     Ok(wipe_cells(cells, pane, colour))
 }
 
@@ -59,6 +65,9 @@ pub fn show_window<C: Colour>(
     ensures buffer { buffer.new ≡ shown_buffer C.Colour.shown C.Colour.BYTES frame.area window cells.now buffer.old }
 {
     let pane = frame.pane(window)?;
+    if pane.has_no_column() {
+        return Ok(0);
+    }
     show_cells(cells, pane, full, buffer)
 }
 

@@ -2,7 +2,7 @@
 ghost use Rattle.std.specs.Prelude.{◌≤◌, length};
 
 use crate::failures::Failure;
-use anyhow::{bail, ensure};
+use anyhow::ensure;
 use raster::{Bits, Bytes, Cover, Shortage, Triples};
 use std::alloc::Global;
 use std::fs;
@@ -110,23 +110,27 @@ fn load(rt: &HostRuntime, name: &str) -> anyhow::Result<Vec<u8>> {
     }
 }
 
-// What a hexadecimal digit stands for.
-fn digit(byte: u8) -> anyhow::Result<u8> {
-    match char::from(byte).to_digit(16) {
-        Some(value) => Ok(value as u8),
-        None => bail!("a hexadecimal digit is expected"),
+// What a hexadecimal digit stands for, and 0 for any other byte.
+fn value_of(digit: u8) -> u8 {
+    match char::from(digit).to_digit(16) {
+        Some(value) => value as u8,
+        None => 0,
     }
 }
 
-// The bytes that pairs of hexadecimal digits stand for.
+// The bytes that pairs of hexadecimal digits stand for. The digits are gone through twice, first to see that they are
+// digits: so no list of their values is kept, which would be as long as the line.
 fn from_digits(alloc: Global, digits: &str) -> anyhow::Result<Vec<u8>> {
-    let values: Vec<u8> = digits.bytes().map(digit).try_collect(alloc)?;
     ensure!(
-        values.len() % 2 == 0,
+        digits.bytes().all(|digit| digit.is_ascii_hexdigit()),
+        "a hexadecimal digit is expected"
+    );
+    ensure!(
+        digits.len() % 2 == 0,
         "an even number of hexadecimal digits is expected"
     );
-    let bytes = values.as_slice().chunks(2).map(|pair| pair
+    let bytes = digits.as_bytes().chunks(2).map(|pair| pair
         .iter()
-        .fold(0, |byte, value| byte << 4 | *value));
+        .fold(0, |byte, digit| byte << 4 | value_of(*digit)));
     Ok(bytes.collect(alloc)?)
 }

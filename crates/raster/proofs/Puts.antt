@@ -1,12 +1,15 @@
 -- Bytes that are put into a buffer from a place on.
 -- Assumes nothing.
-use Rattle.std.proofs.Common.{◌≡◌, ℕ, ◌+◌, ◌≤◌, List, [], ◌++◌, length, take, drop, sym, ap, ◌∙◌, ap₂, append_assoc, add-zero, add_assoc, arith, length-append, length-drop, take-append-drop, drop-drop}
+use Rattle.std.proofs.Common.{◌≡◌, ℕ, ◌+◌, ◌≤◌, List, [], ◌++◌, length, take, drop, Ok, sym, ap, ◌∙◌, ap₂, append_assoc, add-zero, add_assoc, arith, length-append, length-drop, take-append-drop, drop-drop}
 use borrow.Rule.Slice.PartMut.{put_mid}
 use Rattle.std.proofs.lemmas.List.{take_at, drop_at, length-take-le}
 use Rattle.std.proofs.lemmas.Bool.{le-leb, cond-true}
-use Rattle.raster.specs.Shown.{put, room, put_buffer}
+use Rattle.raster.specs.Shown.{put, room, put_answer, put_buffer}
 
 -- where there is room, the bytes are put
+pub put-answer : (buffer bytes : List ℕ) (at : ℕ) → at + length bytes ≤ length buffer → Ok (at + length bytes) ≡ put_answer buffer at bytes
+put-answer buffer bytes at fits = sym (cond-true (room buffer at bytes) _ _ (le-leb _ _ fits))
+
 pub put-buffer : (buffer bytes : List ℕ) (at : ℕ) → at + length bytes ≤ length buffer → put buffer at bytes ≡ put_buffer buffer at bytes
 put-buffer buffer bytes at fits = sym (cond-true (room buffer at bytes) _ _ (le-leb _ _ fits))
 

@@ -1,5 +1,6 @@
 // A layout object with its mask and its image, as something that touches a page.
-ghost use Rattle.raster.specs.Touches.{touch_at};
+ghost use Rattle.std.specs.Prelude.{◌≡◌};
+ghost use Rattle.raster.specs.Touches.{Alike, touch_at};
 
 use crate::covers::Cover;
 use crate::scanlines::touch_along;
@@ -50,7 +51,11 @@ impl<'a, M: Source<Sample = Cover>, I: Source> TouchingRow for LayerRow<'a, M, I
         self.scan.row
     }
 
-    fn touched(&self, column: u32) -> Touch<I::Sample> {
+    // It depends on what mask and image mean, and on nothing else of them: each cell that a lay looks at goes through here.
+    fn touched(&self, column: u32) -> Touch<I::Sample>
+        ensures answer { result ≡ touch_at self.now.scan.place (M.Source.meaning self.now.mask.now) (I.Source.meaning self.now.image.now) column self.now.scan.row }
+        ensures alike { Alike self.now.scan.place (M.Source.meaning self.now.mask.now) (I.Source.meaning self.now.image.now) column self.now.scan.row result }
+    {
         touch_along(self.scan.line, self.mask, self.image, column as u64)
     }
 }

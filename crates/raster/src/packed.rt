@@ -8,29 +8,30 @@ use crate::shortages::{Shortage, enough};
 use crate::sources::{Look, Source};
 use std::marker::PhantomData;
 
-// A way in which samples lie in bytes.
+// A way in which samples lie in bytes: how many bytes a size takes. What the samples are is not asked here, so that a source
+// over bytes is a type for samples of any type.
 pub trait Packing {
-    // The kind of sample: a cover or a colour.
-    type Sample: Copy;
-
     // How many bytes a width and a height need.
     ghost needed: { ℕ → ℕ → ℕ };
-
-    // What a width, a height and bytes mean.
-    ghost rows: { ℕ → ℕ → List ℕ → Meaning Self.Sample };
 
     // How many bytes a size needs.
     fn bytes_needed(width: u16, height: u16) -> usize
         ensures value { result ≡ needed width height };
 
-    // The sample at a place.
-    fn sample(width: u16, height: u16, bytes: &[u8], column: u64, row: u64) -> Self::Sample
-        requires place { (column < width) × (row < height) }
-        requires enough { needed width height ≤ length bytes.now }
-        ensures value { (rows width height bytes.now).sample column row ≡ Some result };
-
     // A size of 0 by 0 needs no bytes.
     ghost empty: { needed 0 0 ≡ 0 };
+}
+
+// A packing of samples of a type, each of which is known.
+pub trait Unpacking<S: Copy>: Packing {
+    // What a width, a height and bytes mean.
+    ghost rows: { ℕ → ℕ → List ℕ → Meaning S };
+
+    // The sample at a place.
+    fn sample(width: u16, height: u16, bytes: &[u8], column: u64, row: u64) -> S
+        requires place { (column < width) × (row < height) }
+        requires enough { Self.needed width height ≤ length bytes.now }
+        ensures value { (rows width height bytes.now).sample column row ≡ Some result };
 
     // The meaning is as wide as it is made.
     ghost wide: { (width height : ℕ) (bytes : List ℕ) → (rows width height bytes).width ≡ width };
@@ -39,26 +40,29 @@ pub trait Packing {
     ghost high: { (width height : ℕ) (bytes : List ℕ) → (rows width height bytes).height ≡ height };
 }
 
-// Samples in the caller's bytes, of which there are as many as the size needs.
+// Samples of a type in the caller's bytes, of which there are as many as the size needs.
 #[derive(Drop)]
-pub struct Packed<'a, P: Packing> {
+pub struct Packed<'a, P: Packing, S> {
     width: u16,
     height: u16,
     bytes: &'a [u8],
     packing: PhantomData<P>,
+    sample: PhantomData<S>,
     ghost enough: { P.needed width height ≤ length bytes.now },
 }
 
-impl<'a, P: Packing> Packed<'a, P> {
+impl<'a, P: Packing, S> Packed<'a, P, S> {
     // How many bytes a size needs; refused where there are fewer.
     pub fn check(width: u16, height: u16, bytes: &[u8]) -> Result<usize, Shortage>
         ensures answer { result ≡ checked (P.needed width height) (length bytes.now) }
     {
         enough(P::bytes_needed(width, height), bytes)
     }
+}
 
+impl<'a, P: Unpacking<S>, S: Copy> Packed<'a, P, S> {
     // The source over these bytes, or one that is 0 by 0 where there are fewer than the size needs.
-    pub fn new(width: u16, height: u16, bytes: &'a [u8]) -> Packed<'a, P>
+    pub fn new(width: u16, height: u16, bytes: &'a [u8]) -> Packed<'a, P, S>
         ensures value { P.rows result.width result.height result.bytes.now ≡ from_enough (P.needed width height) P.rows width height bytes.now }
     {
         let (width, height) = match Self::check(width, height, bytes) {
@@ -70,12 +74,13 @@ impl<'a, P: Packing> Packed<'a, P> {
             height,
             bytes,
             packing: PhantomData,
+            sample: PhantomData,
         }
     }
 }
 
-impl<P: Packing> Source for Packed<'_, P> {
-    type Sample = P::Sample;
+impl<P: Unpacking<S>, S: Copy> Source for Packed<'_, P, S> {
+    type Sample = S;
 
     ghost meaning = { λ s. P.rows s.width s.height s.bytes.now };
 
@@ -87,7 +92,7 @@ impl<P: Packing> Source for Packed<'_, P> {
         self.height
     }
 
-    fn look(&self, column: u64, row: u64) -> Look<P::Sample> {
+    fn look(&self, column: u64, row: u64) -> Look<S> {
         if self.is_place(column, row) {
             let sample = P::sample(self.width, self.height, self.bytes, column, row);
             Look::Found(sample)

@@ -5,18 +5,18 @@ ghost use Rattle.std.proofs.Common.{rules};
 
 use crate::covers::{Cover, full_cover, no_cover};
 use crate::greys::Grey;
-use crate::packed::{Packed, Packing};
+use crate::packed::{Packed, Packing, Unpacking};
 use crate::sources::place_number;
 use crate::tints::Tint;
-use std::marker::PhantomData;
 
 // A kind of sample that one byte makes.
-pub trait OneByte: Copy + From<u8> {
+pub trait OneByte: Copy {
     // The sample of a byte.
     ghost made: { ℕ → Self };
 
-    // `from` answers that sample.
-    ghost makes: { (byte : ℕ) (sample : Self) → Self.from_gives byte sample → sample ≡ made byte };
+    // That sample. No `From<u8>` is asked for: what a type makes of a number need not be what it makes of a sample's byte.
+    fn of_byte(byte: u8) -> Self
+        ensures value { result ≡ made byte };
 }
 
 impl From<u8> for Cover {
@@ -30,7 +30,9 @@ impl From<u8> for Cover {
 impl OneByte for Cover {
     ghost made = { cover_of };
 
-    ghost makes = { Prim.search rules };
+    fn of_byte(byte: u8) -> Cover {
+        Cover::from(byte)
+    }
 }
 
 impl From<u8> for Grey {
@@ -44,35 +46,37 @@ impl From<u8> for Grey {
 impl OneByte for Grey {
     ghost made = { grey_of };
 
-    ghost makes = { Prim.search rules };
+    fn of_byte(byte: u8) -> Grey {
+        Grey::from(byte)
+    }
 }
 
 // One byte to a sample, row after row.
 #[derive(Clone, Copy)]
-pub struct ByteEach<S>(PhantomData<S>);
+pub struct ByteEach;
 
 // A source over bytes, one to a sample.
-pub type Bytes<'a, S> = Packed<'a, ByteEach<S>>;
+pub type Bytes<'a, S> = Packed<'a, ByteEach, S>;
 
-impl<S: OneByte> Packing for ByteEach<S> {
-    type Sample = S;
-
+impl Packing for ByteEach {
     ghost needed = { bytes_needed };
 
-    ghost rows = { byte_rows S.OneByte.made };
-
     ghost empty = { Prim.search rules };
+
+    fn bytes_needed(width: u16, height: u16) -> usize {
+        usize::from(width) * usize::from(height)
+    }
+}
+
+impl<S: OneByte> Unpacking<S> for ByteEach {
+    ghost rows = { byte_rows S.OneByte.made };
 
     ghost wide = { Prim.search rules };
 
     ghost high = { Prim.search rules };
 
-    fn bytes_needed(width: u16, height: u16) -> usize {
-        usize::from(width) * usize::from(height)
-    }
-
     fn sample(width: u16, _height: u16, bytes: &[u8], column: u64, row: u64) -> S {
-        S::from(bytes[place_number(u64::from(width), column, row)])
+        S::of_byte(bytes[place_number(u64::from(width), column, row)])
     }
 }
 
@@ -81,7 +85,7 @@ impl<S: OneByte> Packing for ByteEach<S> {
 pub struct ThreeBytes;
 
 // A source of tints over bytes, three to a tint.
-pub type Triples<'a> = Packed<'a, ThreeBytes>;
+pub type Triples<'a> = Packed<'a, ThreeBytes, Tint>;
 
 // The tint of the three bytes from `at` on.
 fn tint_at(bytes: &[u8], at: usize) -> Tint
@@ -96,21 +100,21 @@ fn tint_at(bytes: &[u8], at: usize) -> Tint
 }
 
 impl Packing for ThreeBytes {
-    type Sample = Tint;
-
     ghost needed = { triples_needed };
 
-    ghost rows = { triple_rows };
-
     ghost empty = { Prim.search rules };
-
-    ghost wide = { Prim.search rules };
-
-    ghost high = { Prim.search rules };
 
     fn bytes_needed(width: u16, height: u16) -> usize {
         3 * (usize::from(width) * usize::from(height))
     }
+}
+
+impl Unpacking<Tint> for ThreeBytes {
+    ghost rows = { triple_rows };
+
+    ghost wide = { Prim.search rules };
+
+    ghost high = { Prim.search rules };
 
     fn sample(width: u16, _height: u16, bytes: &[u8], column: u64, row: u64) -> Tint {
         tint_at(bytes, 3 * place_number(u64::from(width), column, row))
@@ -122,7 +126,7 @@ impl Packing for ThreeBytes {
 pub struct BitEach;
 
 // A mask over bytes, one bit to a cover.
-pub type Bits<'a> = Packed<'a, BitEach>;
+pub type Bits<'a> = Packed<'a, BitEach, Cover>;
 
 // How many bytes a row takes.
 fn row_bytes(width: u16) -> u64
@@ -143,21 +147,21 @@ fn bit_cover(byte: u8, column: u64) -> Cover
 }
 
 impl Packing for BitEach {
-    type Sample = Cover;
-
     ghost needed = { bits_needed };
 
-    ghost rows = { bit_rows };
-
     ghost empty = { Prim.search rules };
-
-    ghost wide = { Prim.search rules };
-
-    ghost high = { Prim.search rules };
 
     fn bytes_needed(width: u16, height: u16) -> usize {
         row_bytes(width) as usize * usize::from(height)
     }
+}
+
+impl Unpacking<Cover> for BitEach {
+    ghost rows = { bit_rows };
+
+    ghost wide = { Prim.search rules };
+
+    ghost high = { Prim.search rules };
 
     fn sample(width: u16, _height: u16, bytes: &[u8], column: u64, row: u64) -> Cover {
         let at = place_number(row_bytes(width), column / 8, row);

@@ -1,2 +1,3 @@
 pub mod Boxed
 pub mod Puts
+pub mod Sizes

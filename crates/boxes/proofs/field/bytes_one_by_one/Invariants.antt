@@ -1,6 +1,6 @@
 -- The bytes below the index are in place.
 use Rattle.std.proofs.Common.{◌≡◌, ℕ, ◌+◌, ◌<◌, length, get_or}
-use Rattle.boxes.proofs.field.bytes_at.Given as goal
+use Rattle.boxes.proofs.field.bytes_one_by_one.Given as goal
 
 abbrev pub invariant-loop-place : goal.invariant-loop-place
 invariant-loop-place g l =

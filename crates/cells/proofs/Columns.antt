@@ -1,6 +1,6 @@
 -- A window without columns: it has no cell, however many rows it has.
 -- Assumes nothing.
-use Rattle.std.proofs.Common.{◌≡◌, ℕ, ◌+◌, ◌*◌, ◌≤◌, true, false, List, [], ◌++◌, None, Option, sym, refl, ap, ◌∙◌, zero-add, zero-mul, arith, nat_le}
+use Rattle.std.proofs.Common.{◌≡◌, ℕ, ◌+◌, ◌*◌, ◌≤◌, Bool, true, false, List, [], ◌++◌, None, Option, sym, refl, ap, ◌∙◌, zero-add, zero-mul, arith, nat_le}
 use Rattle.std.proofs.lemmas.Bool.{cond-false, leb-true, le-leb, false_from_ne_true}
 use Rattle.cells.specs.Gathers.{change_at, gather_at, changed, total, first, listed, or_else}
 use Rattle.cells.specs.Passes.{shown_cell}
@@ -10,6 +10,10 @@ use Rattle.cells.specs.declared.rectangles.Rectangle.{Rectangle}
 use Rattle.cells.specs.declared.stored.Cell.{Cell}
 use Rattle.cells.proofs.Places.{held_from}
 use Rattle.cells.proofs.Steps.{changed-kept, gathered_none}
+
+-- a pane's window is the caller's, and the test of it said that there is no column
+pub columns_none : (w window : Rectangle) (test : Bool) → w ≡ window → test ≡ nat_le w.right w.left → test ≡ true → nat_le window.right window.left ≡ true
+columns_none w window test same is passed = ap (λ r. nat_le r.right r.left) (sym same) ∙ sym is ∙ passed
 
 module _ (area window : Rectangle) (none : nat_le window.right window.left ≡ true) where
   outside : (i : ℕ) → inside area window i ≡ false

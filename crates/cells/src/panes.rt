@@ -59,7 +59,7 @@ impl Pane {
 }
 
 // What a length leaves of a span. A function of its own, which is not compiled into `row_span`: the memory nearly always has
-// all of a row's cells, and then a row of one cell costs no more than its cell.
+// all of a row's cells, and then the way to them is short, which counts where a row has few.
 #[cold]
 #[inline(never)]
 fn clipped(start: usize, end: usize, length: usize) -> Range<usize>

@@ -1,4 +1,4 @@
-use Rattle.std.proofs.Common.{◌≡◌, ℕ, true, false, nat_le, List, Some, None, Ok, Err, Option, sym, refl, ap, ◌∙◌, ap₂, rules}
+use Rattle.std.proofs.Common.{◌≡◌, ℕ, true, false, List, Some, None, Ok, Err, Option, sym, refl, ap, ◌∙◌, ap₂, rules}
 use Rattle.std.proofs.lemmas.Bool.{cond-true, cond-false}
 use Rattle.raster.specs.declared.touches.Touch.{Touch}
 use Rattle.cells.specs.Gathers.{first, or_else, total, changed}
@@ -9,7 +9,7 @@ use Rattle.cells.specs.declared.rectangles.Rectangle.{Rectangle}
 use Rattle.cells.specs.declared.refusals.Refusal.{Refusal}
 use Rattle.cells.specs.declared.refusals.Refusal.TheVariants.{Window}
 use Rattle.cells.specs.declared.stored.Cell.{Cell}
-use Rattle.cells.proofs.Columns.{no_total, no_change, no_first}
+use Rattle.cells.proofs.Columns.{columns_none, no_total, no_change, no_first}
 use Rattle.cells.proofs.windows.lay_window.Goals as goal
 
 module _ {C : Type 0} (k : ℕ) (touch : ℕ → ℕ → Touch C) (area window : Rectangle) (cells : List (Cell C)) where
@@ -45,7 +45,7 @@ returns-then-has_no_column g c =
     let window = c.args.window in
     let cells = c.args.cells.now in
     let is = c.in_ok-pane.ensures.answer in
-    let none : nat_le window.right window.left ≡ true = ap (λ w. nat_le w.right w.left) (sym is.2) ∙ sym c.has_no_column.ensures.value ∙ c.if-has_no_column.true in
+    let none = columns_none _ _ _ is.2 c.has_no_column.ensures.value c.if-has_no_column.true in
     let way = tested k touch area window cells area window refl refl is.0 None (ap₂ or_else (no_first area window none (out_of_turn k) cells) (no_first area window none (missing k touch) cells)) in
     record {
       answer =

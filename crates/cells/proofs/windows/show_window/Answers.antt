@@ -1,4 +1,4 @@
-use Rattle.std.proofs.Common.{◌≡◌, true, nat_le, Ok, Err, sym, ap, ◌∙◌}
+use Rattle.std.proofs.Common.{Ok, Err, sym, ap, ◌∙◌}
 use Rattle.std.proofs.lemmas.Bool.{cond-true}
 use Rattle.raster.specs.Shown.{put}
 use Rattle.raster.proofs.Puts.{put-none}
@@ -6,7 +6,7 @@ use Rattle.cells.specs.Passes.{at_level, shown_cell}
 use Rattle.cells.specs.Shows.{shown_window, show_answer, show_buffer}
 use Rattle.cells.specs.Windows.{granted}
 use Rattle.cells.specs.declared.refusals.Refusal.TheVariants.{Window, Buffer}
-use Rattle.cells.proofs.Columns.{no_total, nothing_shown, long}
+use Rattle.cells.proofs.Columns.{columns_none, no_total, nothing_shown, long}
 use Rattle.cells.proofs.windows.show_window.Goals as goal
 
 pub returns-then-has_no_column : goal.returns-then-has_no_column
@@ -17,7 +17,7 @@ returns-then-has_no_column g c =
     let buffer = c.args.buffer.now in
     let size = g.C.Colour.BYTES in
     let is = c.in_ok-pane.ensures.answer in
-    let none : nat_le window.right window.left ≡ true = ap (λ w. nat_le w.right w.left) (sym is.2) ∙ sym c.has_no_column.ensures.value ∙ c.if-has_no_column.true in
+    let none = columns_none _ _ _ is.2 c.has_no_column.ensures.value c.if-has_no_column.true in
     record {
       answer =
           ap Ok (no_total area window none (at_level c.args.full) cells)

@@ -15,7 +15,13 @@ part-same (suc n) at bs (y ∷ ys) h f =
     λ i. first i ∷ rest i
 
 -- the first bytes of those from a place up to another
-pub part-take : (n at end : ℕ) (bs rest : List ℕ) → at + n ≤ end → n ≤ length rest → rest ≡ slice_range bs at end → take n rest ≡ part n at bs
-part-take n at end bs rest far h e =
+pub part-take-to : (n at end : ℕ) (bs rest : List ℕ) → n ≤ length rest → rest ≡ slice_range bs at end → take n rest ≡ part n at bs
+part-take-to n at end bs rest h e =
     let l = length-take n rest in
+    let all : length rest ≡ length (take (end - at) (drop at bs)) = ap length e in
+    let most = length-take (end - at) (drop at bs) in
     part-same n at bs (take n rest) (omega arith) (λ k lt. get_or-take n rest k 0 lt ∙ ap (λ r. get_or r k 0) e ∙ get_or-take (end - at) (drop at bs) k 0 (omega arith) ∙ get_or-drop at bs k 0)
+
+-- the first bytes of all those from a place on
+pub part-take : (n at : ℕ) (bs rest : List ℕ) → n ≤ length rest → rest ≡ slice_range bs at (length bs) → take n rest ≡ part n at bs
+part-take n at bs = part-take-to n at (length bs) bs

@@ -1,5 +1,5 @@
-use Rattle.std.proofs.Common.{◌+◌, ap, ◌∙◌, arith}
-use Rattle.boxes.proofs.Fields.{part-take}
+use Rattle.std.proofs.Common.{◌+◌, ap, ◌∙◌}
+use Rattle.boxes.proofs.Fields.{part-take-to}
 use Rattle.boxes.specs.Field.{part}
 use Rattle.boxes.proofs.field.bytes_at.Goals as goal
 
@@ -7,4 +7,4 @@ pub returns : goal.returns
 returns g c =
     let bs = c.args.bytes.now in
     let whole = c.in-Some-first_chunk.ensures.cases in
-    record { value = whole.same ∙ part-take g.row.N c.from-start.result (c.from-start.result + g.row.N) bs c.in-Some.rest.now (omega arith) whole.enough c.in-Some.ensures.lookup.0.2 ∙ ap (λ at. part g.row.N at bs) c.from-start.ensures }
+    record { value = whole.same ∙ part-take-to g.row.N c.from-start.result (c.from-start.result + g.row.N) bs c.in-Some.rest.now whole.enough c.in-Some.ensures.lookup.0.2 ∙ ap (λ at. part g.row.N at bs) c.from-start.ensures }
